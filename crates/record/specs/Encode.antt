@@ -1,0 +1,100 @@
+-- What writing a record answers: document 01's refusals 1 to 5, and what the wire can carry.
+use Prim.Native.Nat.{ℕ, _<_, _^_}
+use mathlib.Core.Path.{_≡_}
+use mathlib.Core.Bool.{Bool, true, false, _||_, not}
+use mathlib.Core.List.{List, [], _∷_, _++_}
+use lib.Dec.{ltb, eqb}
+use lib.ListN.{length}
+use Rattle.basics.specs.Bytes.{AllBelow, over}
+use Rattle.basics.specs.Choice.{choose, first}
+use Rattle.basics.specs.Words.{highWord}
+use Rattle.stream.specs.Layout.{kindOf, payloadLength}
+use Rattle.stream.specs.declared.Kind.{Kind}
+use Rattle.stream.specs.declared.Kind.the-variants.{Packet, Datagram, Telegram, Unknown}
+use Rattle.record.specs.Record.{Record, framesOf, streamOf}
+use Rattle.record.specs.declared.Encoded.{Encoded}
+use Rattle.record.specs.declared.Encoded.the-variants.{Written, UnknownVersion, HighAddress, HighCommand, WrongLength, OutputTooShort}
+
+-- the paper's number of each answer
+abbrev pub number : Encoded → ℕ
+number (Written n) = 0
+number UnknownVersion = 1
+number HighAddress = 2
+number HighCommand = 3
+number WrongLength = 4
+number OutputTooShort = 5
+
+-- an answer in the paper's terms: its number, and the stream's length or, refused, zero
+pub record Answer : Type 0 where
+  pub number : ℕ
+  pub length : ℕ
+
+abbrev pub lengthIn : Encoded → ℕ
+lengthIn (Written n) = n
+lengthIn UnknownVersion = 0
+lengthIn HighAddress = 0
+lengthIn HighCommand = 0
+lengthIn WrongLength = 0
+lengthIn OutputTooShort = 0
+
+abbrev pub answerOf : Encoded → Answer
+answerOf e = record { number = number e; length = lengthIn e }
+
+-- 1: the version is none of 10, 20, 30, 31 hex
+abbrev pub isUnknown : Kind → Bool
+isUnknown Packet = false
+isUnknown Datagram = false
+isUnknown Telegram = false
+isUnknown Unknown = true
+
+-- 3: a packet's or datagram's command has bit 7 or 15 set, or a telegram's is above 0x7F
+abbrev pub commandHigh : Kind → ℕ → Bool
+commandHigh Packet command = highWord command
+commandHigh Datagram command = highWord command
+commandHigh Telegram command = ltb 0x7F command
+commandHigh Unknown command = false
+
+-- 4: the payload's length doesn't fit the record: it is not that of F frames, or F is above 127
+abbrev pub lengthWrong : Kind → Record → Bool
+lengthWrong K r = not (eqb (length (r .payload)) (payloadLength K (framesOf K r))) || ltb 127 (framesOf K r)
+
+-- the table's lines 1 to 4, of a record that is taken as one of a kind
+abbrev pub linesAs : Kind → Record → List (Bool × ℕ)
+linesAs K r =
+    (isUnknown K, 1)
+    ∷ (highWord (r .header .destination) || highWord (r .header .source), 2)
+    ∷ (commandHigh K (r .header .command), 3)
+    ∷ (lengthWrong K r, 4)
+    ∷ []
+
+-- what the wire can't carry: the first of the lines 1 to 4 that applies, or 0
+unfoldable pub unwritable : Record → ℕ
+unwritable r = first (linesAs (kindOf (r .header .version)) r)
+
+-- each field is a number of its type
+pub record InRange (r : Record) : Type 0 where
+  pub version : r .header .version < 2 ^ 8
+  pub destination : r .header .destination < 2 ^ 16
+  pub source : r .header .source < 2 ^ 16
+  pub command : r .header .command < 2 ^ 16
+  pub payload : AllBelow (2 ^ 8) (r .payload)
+
+-- none of the refusals 1 to 4 applies
+pub record Writable (r : Record) : Type 0 where
+  pub range : InRange r
+  pub carried : unwritable r ≡ 0
+
+-- 5, the last line: the output is shorter than the stream
+abbrev pub roomLine : Record → ℕ → Bool × ℕ
+roomLine r room = (ltb room (length (streamOf r)), 5)
+
+-- the refusal for an output of the given room, or 0
+unfoldable pub refusal : Record → ℕ → ℕ
+refusal r room = first (linesAs (kindOf (r .header .version)) r ++ (roomLine r room ∷ []))
+
+abbrev pub encodingOf : Record → ℕ → Answer
+encodingOf r room = record { number = refusal r room; length = choose (eqb (refusal r room) 0) (length (streamOf r)) 0 }
+
+-- the output afterwards: the stream over its start or, refused, every byte as it was
+abbrev pub outputAfter : Record → List ℕ → List ℕ
+outputAfter r out = choose (eqb (refusal r (length out)) 0) (over (streamOf r) out) out

@@ -1,0 +1,89 @@
+-- A record, as a whole stream says it and as it is written.
+use Prim.Native.Nat.{ℕ, zero, suc, _+_, _*_, _/_}
+use mathlib.Core.List.{List, [], _∷_, _++_}
+use lib.ListN.{length, getD, take, drop}
+use Rattle.basics.specs.Words.{wordAt, wordBytes}
+use Rattle.checksum.specs.Checksum.{checksumOf}
+use Rattle.septet.specs.Septet.{septetOf, lowBits, withTopBits}
+use Rattle.stream.specs.Layout.{kindOf, kind, frameWidth, frameCount, telegramFrames}
+use Rattle.stream.specs.declared.Kind.{Kind}
+use Rattle.stream.specs.declared.Kind.the-variants.{Packet, Datagram, Telegram, Unknown}
+use Rattle.record.specs.declared.Header.{Header}
+
+-- document 01: version, destination, source, command (the header) and payload
+pub record Record : Type 0 where
+  pub header : Header
+  pub payload : List ℕ
+
+-- ── reading
+
+-- the payload of n frames, with its top bits put back
+unfoldable pub unframed : ℕ → ℕ → List ℕ → List ℕ
+unframed width zero s = []
+unframed width (suc n) s = withTopBits (getD s width 0) (take width s) ++ unframed width n (drop (width + 2) s)
+
+-- a packet's or a datagram's command stands at 6-7, a telegram's at 6
+unfoldable pub commandIn : Kind → List ℕ → ℕ
+commandIn Packet s = wordAt s 6
+commandIn Datagram s = wordAt s 6
+commandIn Telegram s = getD s 6 0
+commandIn Unknown s = 0
+
+-- frames follow a packet's header at 10 and a telegram's at 8; a datagram has parameter and value at 8-13, with their septet at 14
+unfoldable pub payloadIn : Kind → List ℕ → List ℕ
+payloadIn Packet s = unframed 4 (frameCount Packet s) (drop 10 s)
+payloadIn Datagram s = withTopBits (getD s 14 0) (take 6 (drop 8 s))
+payloadIn Telegram s = unframed 7 (frameCount Telegram s) (drop 8 s)
+payloadIn Unknown s = []
+
+-- a stream read as one of a kind: destination at 1-2, source at 3-4, version at 5
+abbrev pub recordAs : Kind → List ℕ → Record
+recordAs K s =
+    record {
+      header = record { version = getD s 5 0; destination = wordAt s 1; source = wordAt s 3; command = commandIn K s };
+      payload = payloadIn K s;
+    }
+
+-- the record of a whole stream
+unfoldable pub recordOf : List ℕ → Record
+recordOf s = recordAs (kind s) s
+
+-- ── writing
+
+-- bytes with their checksum behind them
+abbrev pub withChecksum : List ℕ → List ℕ
+withChecksum block = block ++ (checksumOf block ∷ [])
+
+-- a block's bytes without their top bits, with the septet behind them
+abbrev pub withSeptet : List ℕ → List ℕ
+withSeptet block = lowBits block ++ (septetOf block ∷ [])
+
+-- n frames of the payload
+unfoldable pub framed : ℕ → ℕ → List ℕ → List ℕ
+framed width zero payload = []
+framed width (suc n) payload = withChecksum (withSeptet (take width payload)) ++ framed width n (drop width payload)
+
+-- the frame count F: of a packet by the payload's length, of a telegram fixed by the command
+unfoldable pub framesOf : Kind → Record → ℕ
+framesOf Packet r = length (r .payload) / 4
+framesOf Datagram r = 0
+framesOf Telegram r = telegramFrames (r .header .command)
+framesOf Unknown r = 0
+
+-- offsets 1 to 5, alike in every kind
+abbrev pub addressBytes : Header → List ℕ
+addressBytes h = wordBytes (h .destination) ++ (wordBytes (h .source) ++ (h .version ∷ []))
+
+-- offset 6 up to the header's checksum, or a datagram's
+unfoldable pub kindBytes : Kind → Record → List ℕ
+kindBytes Packet r = wordBytes (r .header .command) ++ (framesOf Packet r ∷ [])
+kindBytes Datagram r = wordBytes (r .header .command) ++ withSeptet (r .payload)
+kindBytes Telegram r = r .header .command ∷ []
+kindBytes Unknown r = []
+
+unfoldable pub streamAs : Kind → Record → List ℕ
+streamAs K r = 0xAA ∷ (withChecksum (addressBytes (r .header) ++ kindBytes K r) ++ framed (frameWidth K) (framesOf K r) (r .payload))
+
+-- the stream that writing gives for a record
+unfoldable pub streamOf : Record → List ℕ
+streamOf r = streamAs (kindOf (r .header .version)) r

@@ -1,0 +1,2 @@
+pub mod Septet
+pub mod Block

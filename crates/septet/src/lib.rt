@@ -1,0 +1,79 @@
+// The septet: the top bits of up to seven bytes, carried apart from them.
+ghost use mathlib.Core.Path.{_≡_};
+ghost use Rattle.septet.specs.Block.{extracted, injected};
+
+// A block of at most seven bytes with its septet, or a refusal: number 7, and all else zero.
+pub struct Block {
+    pub number: u32,
+    pub bytes: [u8; 7],
+    pub length: usize,
+    pub septet: u8,
+}
+
+fn refused() -> Block
+    ensures { λ r. ⌜ r ≡ Rattle.septet.specs.Block.refused ⌝ }
+{
+    Block {
+        number: 7,
+        bytes: [0; 7],
+        length: 0,
+        septet: 0,
+    }
+}
+
+// The first `used` bytes without their top bits, and the septet that holds these.
+pub fn extract(bytes: [u8; 7], used: usize) -> Block
+    ensures { λ r. ⌜ r ≡ extracted bytes used ⌝ }
+{
+    if used > 7 {
+        return refused();
+    }
+    let mut low = [0u8; 7];
+    let mut septet: u8 = 0;
+    let mut i = used;
+    while 0 < i {
+        i -= 1;
+        let byte = bytes[i];
+        septet = septet * 2 + byte / 128;
+        low[i] = byte % 128;
+    }
+    Block {
+        number: 0,
+        bytes: low,
+        length: used,
+        septet,
+    }
+}
+
+// The first `used` bytes with the septet's bits as their top bits.
+pub fn inject(bytes: [u8; 7], used: usize, septet: u8) -> Block
+    ensures { λ r. ⌜ r ≡ injected bytes used septet ⌝ }
+{
+    if used > 7 {
+        return refused();
+    }
+    if septet >= 0x80 {
+        return refused();
+    }
+    let mut full = [0u8; 7];
+    let mut rest = septet;
+    let mut i = 0;
+    while i < used {
+        let byte = bytes[i];
+        if byte >= 0x80 {
+            return refused();
+        }
+        full[i] = byte + 128 * (rest % 2);
+        rest = rest / 2;
+        i += 1;
+    }
+    if rest != 0 {
+        return refused();
+    }
+    Block {
+        number: 0,
+        bytes: full,
+        length: used,
+        septet: 0,
+    }
+}

@@ -1,0 +1,5 @@
+pub mod Reached
+pub mod Faults
+pub mod Frames
+pub mod Headers
+pub mod Whole

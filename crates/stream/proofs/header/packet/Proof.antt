@@ -1,0 +1,40 @@
+-- `stream::header::packet` meets its contract: the header, and then the frames. Assumes nothing.
+use native.Mathlib.Omega.{arith}
+use Rattle.stream.specs.Layout.{frameWidth, frameCount}
+use Rattle.stream.specs.declared.Kind.the-variants.{Packet}
+use Rattle.stream.proofs.Headers.{packet-ends, checksum-at, header-within, frames-from}
+use Rattle.stream.proofs.Reached.{early, bounded}
+use borrow.Author.Needs.{needs}
+use Rattle.stream.proofs.header.packet.Statement.{statement}
+use Rattle.stream.proofs.header.packet.Tie as tie
+
+check-requires : tie.Need-check-requires
+check-requires c κs = checksum-at Packet 9 packet-ends _ (c .before .pre) (omega arith) (omega arith)
+
+returns : tie.Need-returns
+returns c = early (c .before .before .check .ensures) (c .if1 .taken) (header-within Packet 9 packet-ends _ (c .before .before .before .before .pre))
+
+shared-slice-read-validate : tie.Need-shared-slice-read-validate
+shared-slice-read-validate c = omega (arith, bounded (c .before .before .before .check .ensures))
+
+cast-validate : tie.Need-cast-validate
+cast-validate c = omega (arith, c .shared-slice-known2 .given 8)
+
+validate-requires : tie.Need-validate-requires
+unfolding frameWidth frameCount
+validate-requires c κs =
+    frames-from Packet 9 packet-ends _ (c .before .before .before .before .before .pre) (c .before .before .before .check .ensures) (omega arith) (omega arith)
+
+returns-2 : tie.Need-returns-2
+returns-2 c = search needs
+
+pub packet-spec : {M : Type 1} → statement M
+packet-spec =
+    tie.close
+    (tie.spec
+    check-requires
+    returns
+    shared-slice-read-validate
+    cast-validate
+    validate-requires
+    returns-2)

@@ -1,0 +1,85 @@
+-- What the private functions under `validate` promise, as facts of each offset. No public contract cites this file.
+use Prim.Native.Nat.{ℕ, _+_, _-_, _*_, _≤_, _<_}
+use mathlib.Core.Path.{_≡_}
+use mathlib.Core.List.{List}
+use lib.Dec.{leb}
+use lib.ListN.{length, getD}
+use Rattle.basics.specs.Choice.{choose}
+use Rattle.stream.specs.Layout.{kind, streamLength}
+use Rattle.stream.specs.Validation.{number, any, headerSum, frameRule, ruleAt, breach, faultAt}
+use Rattle.stream.specs.declared.Kind.{Kind}
+use Rattle.stream.specs.declared.Validation.{Validation}
+
+-- no fault below k
+abbrev pub Clean : (ℕ → ℕ) → ℕ → Type 0
+Clean fault k = (i : ℕ) → i < k → fault i ≡ 0
+
+-- verdict v at offset k is what n bytes bring of which the first `total` count: all of them, the end, or the first fault
+pub data Reached (fault : ℕ → ℕ) (total n v k : ℕ) : Type 0 where
+  whole : v ≡ 0 → k ≡ total → Clean fault total → total ≤ n → Reached fault total n v k
+  ended : v ≡ 7 → k ≡ n → Clean fault n → n < total → Reached fault total n v k
+  found : fault k ≡ v → 0 < v → Clean fault k → k < total → k < n → Reached fault total n v k
+
+-- r is what the first `total` bytes of s bring
+abbrev pub ReachedTo : List ℕ → ℕ → Validation → Type 0
+ReachedTo s total r = Reached (faultAt s) total (length s) (number (r .verdict)) (r .offset)
+
+-- r is what s brings
+abbrev pub ReachedAll : List ℕ → Validation → Type 0
+ReachedAll s r = ReachedTo s (streamLength s) r
+
+-- the fault at place i of a frame of the given width, of which part is what there is
+unfoldable pub frameFault : ℕ → List ℕ → ℕ → ℕ
+frameFault width part i = choose (leb 0x80 (getD part i 0)) 2 (breach (frameRule width i) part i)
+
+-- r is what a frame of the given width brings, of which part is what there is
+abbrev pub ReachedFrame : ℕ → List ℕ → Validation → Type 0
+ReachedFrame width part r = Reached (frameFault width part) (width + 2) (length part) (number (r .verdict)) (r .offset)
+
+-- r is the first place from `from` on at which s ends or has a byte of 0x80 or more, or the limit
+pub record FirstHigh (s : List ℕ) (from limit r : ℕ) : Type 0 where
+  pub after : from ≤ r
+  pub before : r ≤ limit
+  pub within : r ≤ length s
+  pub low : (i : ℕ) → i < r → from ≤ i → getD s i 0 < 0x80
+  pub high : r < limit → r < length s → 0x80 ≤ getD s r 0
+
+-- the first six bytes are there, nothing is wrong with the first five, and the version is no high byte
+pub record AddressClean (s : List ℕ) : Type 0 where
+  pub there : 6 ≤ length s
+  pub clean : Clean (faultAt s) 5
+  pub low : getD s 5 0 < 0x80
+
+-- the same of a stream of the given kind
+pub record AddressCleanAs (s : List ℕ) (K : Kind) : Type 0 where
+  pub address : AddressClean s
+  pub is : kind s ≡ K
+
+-- the header's checksum stands at `at`, and any byte may stand before it
+pub record ChecksumAt (s : List ℕ) (at : ℕ) : Type 0 where
+  pub address : AddressClean s
+  pub after : 6 ≤ at
+  pub near : at ≤ 15
+  pub free : (i : ℕ) → i < at → ruleAt (kind s) i ≡ any
+  pub sum : ruleAt (kind s) at ≡ headerSum (at - 1)
+
+-- the header is right, and `count` frames of the given width follow it from `start` on
+pub record FramesFrom (s : List ℕ) (start width count : ℕ) : Type 0 where
+  pub there : start ≤ length s
+  pub clean : Clean (faultAt s) start
+  pub after : 0 < start
+  pub narrow : width ≤ 7
+  pub total : streamLength s ≡ start + (width + 2) * count
+  pub rules : (j i : ℕ) → i < width + 2 → ruleAt (kind s) (start + (width + 2) * j + i) ≡ frameRule width i
+
+-- r is the lesser of two numbers
+pub record Lesser (a b r : ℕ) : Type 0 where
+  pub left : r ≤ a
+  pub right : r ≤ b
+  pub most : (x : ℕ) → x ≤ a → x ≤ b → x ≤ r
+
+-- r says what stopped a search for high bytes
+pub record StoppedAt (s : List ℕ) (stop : ℕ) (r : Validation) : Type 0 where
+  pub here : r .offset ≡ stop
+  pub high : stop < length s → number (r .verdict) ≡ 2
+  pub ends : length s ≤ stop → number (r .verdict) ≡ 7

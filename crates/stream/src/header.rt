@@ -1,0 +1,84 @@
+// The header behind the version, by the kind of the stream, and what follows it.
+ghost use Prim.Native.Nat.{_+_};
+ghost use Rattle.stream.specs.declared.Kind.the-variants.{Packet, Datagram, Telegram};
+ghost use Rattle.stream.specs.Stage.{ReachedTo, ReachedAll, AddressClean, AddressCleanAs, ChecksumAt};
+use crate::Kind;
+use crate::Validation;
+use crate::Verdict;
+use crate::at;
+use crate::bytes::first_high;
+use crate::bytes::stopped;
+
+// The verdict on a header whose checksum stands at `place`.
+fn check(input: &[u8], place: usize) -> Validation
+    requires { ⌜ ChecksumAt (now input) place ⌝ }
+    ensures { λ r. ⌜ ReachedTo (now (input .entry)) (place + 1) r ⌝ }
+{
+    let end = place + 1;
+    let stop = first_high(input, 6, end);
+    if stop < end {
+        return stopped(input, stop);
+    }
+    if checksum::checksum(&input[1..place]) != input[place] {
+        return at(Verdict::HeaderChecksum, place);
+    }
+    at(Verdict::Whole, end)
+}
+
+// The verdict on a packet: frames of four bytes, as many as offset 8 says.
+fn packet(input: &[u8]) -> Validation
+    requires { ⌜ AddressCleanAs (now input) Packet ⌝ }
+    ensures { λ r. ⌜ ReachedAll (now (input .entry)) r ⌝ }
+{
+    let r = check(input, 9);
+    if r.offset < 10 {
+        return r;
+    }
+    crate::frame::validate(input, 10, 4, input[8] as usize)
+}
+
+// The verdict on a telegram: frames of seven bytes, as many as bits 5-6 of the command say.
+fn telegram(input: &[u8]) -> Validation
+    requires { ⌜ AddressCleanAs (now input) Telegram ⌝ }
+    ensures { λ r. ⌜ ReachedAll (now (input .entry)) r ⌝ }
+{
+    let r = check(input, 7);
+    if r.offset < 8 {
+        return r;
+    }
+    crate::frame::validate(input, 8, 7, input[6] as usize / 32 % 4)
+}
+
+// The verdict on a datagram: a septet of six bytes at 14, and the checksum of all before it at 15.
+fn datagram(input: &[u8]) -> Validation
+    requires { ⌜ AddressCleanAs (now input) Datagram ⌝ }
+    ensures { λ r. ⌜ ReachedAll (now (input .entry)) r ⌝ }
+{
+    let stop = first_high(input, 6, 16);
+    if stop <= 14 {
+        return stopped(input, stop);
+    }
+    if input[14] / 64 != 0 {
+        return at(Verdict::UnusedSeptetBit, 14);
+    }
+    if stop < 16 {
+        return stopped(input, stop);
+    }
+    if checksum::checksum(&input[1..15]) != input[15] {
+        return at(Verdict::HeaderChecksum, 15);
+    }
+    at(Verdict::Whole, 16)
+}
+
+// The verdict on a stream of which nothing below the version is wrong.
+pub fn validate(input: &[u8]) -> Validation
+    requires { ⌜ AddressClean (now input) ⌝ }
+    ensures { λ r. ⌜ ReachedAll (now (input .entry)) r ⌝ }
+{
+    match crate::kind_of(input[5]) {
+        Kind::Packet => packet(input),
+        Kind::Datagram => datagram(input),
+        Kind::Telegram => telegram(input),
+        Kind::Unknown => at(Verdict::UnknownVersion, 5),
+    }
+}

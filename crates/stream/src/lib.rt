@@ -1,0 +1,96 @@
+// One stream on the wire, validated from its first byte (document 01: judging).
+ghost use mathlib.Core.Path.{_≡_};
+ghost use Rattle.stream.specs.Layout.{kindOf};
+ghost use Rattle.stream.specs.Validation.{number, answerOf, validationOf};
+
+mod bytes;
+mod frame;
+mod header;
+
+// The kinds of streams.
+pub enum Kind {
+    Packet,
+    Datagram,
+    Telegram,
+    Unknown,
+}
+
+// What is said of a stretch of bytes (document 01's verdicts V0 to V7).
+pub enum Verdict {
+    // V0: the stretch begins with one whole valid stream.
+    Whole,
+    // V1: the first byte is not the sync byte.
+    NoSync,
+    // V2: a byte of 0x80 or more behind the first.
+    HighByte,
+    // V3: the version is unknown.
+    UnknownVersion,
+    // V4: the header's checksum, or a datagram's, is wrong.
+    HeaderChecksum,
+    // V5: a septet bit that stands for no byte is set.
+    UnusedSeptetBit,
+    // V6: a frame's checksum is wrong.
+    FrameChecksum,
+    // V7: the stretch ends first.
+    Ended,
+}
+
+impl Verdict {
+    // The paper's number: 0 to 7 for V0 to V7.
+    pub fn number(self) -> u8
+        ensures { λ r. ⌜ r ≡ number self ⌝ }
+    {
+        match self {
+            Verdict::Whole => 0,
+            Verdict::NoSync => 1,
+            Verdict::HighByte => 2,
+            Verdict::UnknownVersion => 3,
+            Verdict::HeaderChecksum => 4,
+            Verdict::UnusedSeptetBit => 5,
+            Verdict::FrameChecksum => 6,
+            Verdict::Ended => 7,
+        }
+    }
+}
+
+// A verdict, with the offset that it was reached at.
+pub struct Validation {
+    pub verdict: Verdict,
+    pub offset: usize,
+}
+
+fn at(verdict: Verdict, offset: usize) -> Validation
+    ensures { λ r. ⌜ r ≡ record { verdict = verdict; offset = offset } ⌝ }
+{
+    Validation { verdict, offset }
+}
+
+// A stream's kind, by its version byte.
+pub fn kind_of(version: u8) -> Kind
+    ensures { λ r. ⌜ r ≡ kindOf version ⌝ }
+{
+    match version {
+        0x10 => Kind::Packet,
+        0x20 => Kind::Datagram,
+        0x30 => Kind::Telegram,
+        0x31 => Kind::Telegram,
+        _ => Kind::Unknown,
+    }
+}
+
+// The verdict on the stream that `input` begins with. It stops at the first fault.
+pub fn validate(input: &[u8]) -> Validation
+    ensures { λ r. ⌜ answerOf r ≡ validationOf (now (input .entry)) ⌝ }
+{
+    if input.len() == 0 {
+        return at(Verdict::Ended, 0);
+    }
+    if input[0] != 0xAA {
+        return at(Verdict::NoSync, 0);
+    }
+    let stop = bytes::first_high(input, 1, 6);
+    if stop < 6 {
+        return bytes::stopped(input, stop);
+    }
+    header::validate(input)
+}
