@@ -54,9 +54,9 @@ commandHigh Datagram command = highWord command
 commandHigh Telegram command = ltb 0x7F command
 commandHigh Unknown command = false
 
--- 4: the payload's length doesn't fit the record: it is not that of F frames, or F is above 127
-abbrev pub lengthWrong : Kind → Record → Bool
-lengthWrong K r = not (eqb (length (r .payload)) (payloadLength K (framesOf K r))) || ltb 127 (framesOf K r)
+-- 4: the payload's length n doesn't fit: F is above 127, or n is not the length of F frames
+abbrev pub lengthWrong : Kind → ℕ → ℕ → Bool
+lengthWrong K command n = ltb 127 (framesOf K command n) || not (eqb n (payloadLength K (framesOf K command n)))
 
 -- the table's lines 1 to 4, of a record that is taken as one of a kind
 abbrev pub linesAs : Kind → Record → List (Bool × ℕ)
@@ -64,10 +64,10 @@ linesAs K r =
     (isUnknown K, 1)
     ∷ (highWord (r .header .destination) || highWord (r .header .source), 2)
     ∷ (commandHigh K (r .header .command), 3)
-    ∷ (lengthWrong K r, 4)
+    ∷ (lengthWrong K (r .header .command) (length (r .payload)), 4)
     ∷ []
 
--- what the wire can't carry: the first of the lines 1 to 4 that applies, or 0
+-- the first of the lines 1 to 4 that applies, or 0: what the wire can't carry
 unfoldable pub unwritable : Record → ℕ
 unwritable r = first (linesAs (kindOf (r .header .version)) r)
 
@@ -84,13 +84,9 @@ pub record Writable (r : Record) : Type 0 where
   pub range : InRange r
   pub carried : unwritable r ≡ 0
 
--- 5, the last line: the output is shorter than the stream
-abbrev pub roomLine : Record → ℕ → Bool × ℕ
-roomLine r room = (ltb room (length (streamOf r)), 5)
-
--- the refusal for an output of the given room, or 0
+-- the refusal for an output of the given room, or 0; the last line is 5: the output is shorter than the stream
 unfoldable pub refusal : Record → ℕ → ℕ
-refusal r room = first (linesAs (kindOf (r .header .version)) r ++ (roomLine r room ∷ []))
+refusal r room = first (linesAs (kindOf (r .header .version)) r ++ ((ltb room (length (streamOf r)), 5) ∷ []))
 
 abbrev pub encodingOf : Record → ℕ → Answer
 encodingOf r room = record { number = refusal r room; length = choose (eqb (refusal r room) 0) (length (streamOf r)) 0 }

@@ -1,3 +1,4 @@
 pub mod Record
 pub mod Encode
 pub mod Value
+pub mod Stage

@@ -1,5 +1,5 @@
 -- A record, as a whole stream says it and as it is written.
-use Prim.Native.Nat.{ℕ, zero, suc, _+_, _*_, _/_}
+use Prim.Native.Nat.{ℕ, zero, suc, _+_, _/_}
 use mathlib.Core.List.{List, [], _∷_, _++_}
 use lib.ListN.{length, getD, take, drop}
 use Rattle.basics.specs.Words.{wordAt, wordBytes}
@@ -63,12 +63,15 @@ unfoldable pub framed : ℕ → ℕ → List ℕ → List ℕ
 framed width zero payload = []
 framed width (suc n) payload = withChecksum (withSeptet (take width payload)) ++ framed width n (drop width payload)
 
--- the frame count F: of a packet by the payload's length, of a telegram fixed by the command
-unfoldable pub framesOf : Kind → Record → ℕ
-framesOf Packet r = length (r .payload) / 4
-framesOf Datagram r = 0
-framesOf Telegram r = telegramFrames (r .header .command)
-framesOf Unknown r = 0
+-- the frame count F: of a packet by its payload's length n, of a telegram fixed by the command
+unfoldable pub framesOf : Kind → ℕ → ℕ → ℕ
+framesOf Packet command n = n / 4
+framesOf Datagram command n = 0
+framesOf Telegram command n = telegramFrames command
+framesOf Unknown command n = 0
+
+abbrev pub framesIn : Kind → Record → ℕ
+framesIn K r = framesOf K (r .header .command) (length (r .payload))
 
 -- offsets 1 to 5, alike in every kind
 abbrev pub addressBytes : Header → List ℕ
@@ -76,13 +79,13 @@ addressBytes h = wordBytes (h .destination) ++ (wordBytes (h .source) ++ (h .ver
 
 -- offset 6 up to the header's checksum, or a datagram's
 unfoldable pub kindBytes : Kind → Record → List ℕ
-kindBytes Packet r = wordBytes (r .header .command) ++ (framesOf Packet r ∷ [])
+kindBytes Packet r = wordBytes (r .header .command) ++ (framesIn Packet r ∷ [])
 kindBytes Datagram r = wordBytes (r .header .command) ++ withSeptet (r .payload)
 kindBytes Telegram r = r .header .command ∷ []
 kindBytes Unknown r = []
 
 unfoldable pub streamAs : Kind → Record → List ℕ
-streamAs K r = 0xAA ∷ (withChecksum (addressBytes (r .header) ++ kindBytes K r) ++ framed (frameWidth K) (framesOf K r) (r .payload))
+streamAs K r = 0xAA ∷ (withChecksum (addressBytes (r .header) ++ kindBytes K r) ++ framed (frameWidth K) (framesIn K r) (r .payload))
 
 -- the stream that writing gives for a record
 unfoldable pub streamOf : Record → List ℕ

@@ -70,7 +70,7 @@ pub fn encode(header: Header, payload: &[u8], out: &mut [u8]) -> Encoded
     if fits::wrong_length(kind, header.command, count) {
         return Encoded::WrongLength;
     }
-    let size = fits::stream_length(kind, header.command, count);
+    let size = fits::stream_length(kind, fits::frame_count(kind, header.command, count));
     if out.len() < size {
         return Encoded::OutputTooShort;
     }

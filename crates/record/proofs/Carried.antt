@@ -1,0 +1,155 @@
+-- What the wire can carry: the facts that a writable record's tests say, and back.
+use Prim.Native.Nat.{ℕ, _+_, _*_, _/_, _%_, _<_, _≤_}
+use native.Mathlib.Omega.{arith}
+use mathlib.Core.Path.{_≡_, refl}
+use mathlib.Core.Bool.{Bool, true, false, _||_, not}
+use mathlib.Core.List.{[], _∷_, _++_}
+use borrow.Author.Tests.{ne-eqb, eq-eqb, eqb-false, le-ltb, ltb-false}
+use lib.Dec.{eqb, ltb}
+use lib.ListN.{length}
+use Rattle.basics.specs.Choice.{choose, first}
+use Rattle.basics.specs.Words.{hasBit, highWord}
+use Rattle.basics.proofs.Choice.{line-passed}
+use Rattle.stream.specs.Layout.{kindOf, headerLength, frameWidth, payloadLength}
+use Rattle.stream.specs.declared.Kind.{Kind}
+use Rattle.stream.specs.declared.Kind.the-variants.{Packet, Datagram, Telegram, Unknown}
+use Rattle.record.specs.Record.{Record, framesOf, framesIn, streamAs, streamOf}
+use Rattle.record.specs.Encode.{isUnknown, commandHigh, lengthWrong, linesAs, unwritable, refusal, InRange, Writable}
+use Rattle.record.proofs.Lengths.{neither, few-frames, right-length, length-stream}
+
+-- both bytes of a word are without their top bits
+abbrev pub SevenBitWord : ℕ → Type 0
+SevenBitWord x = (x % 256 < 128) × (x / 256 < 128)
+
+low-word : (x : ℕ) → x < 65536 → highWord x ≡ false → SevenBitWord x
+low-word x fits h =
+    let bits = neither (hasBit 7 x) (hasBit 15 x) h in
+    let seven : x / 128 % 2 ≡ 1 → ⊥ = eqb-false (x / 128 % 2) 1 (bits .0) in
+    let fifteen : x / 32768 % 2 ≡ 1 → ⊥ = eqb-false (x / 32768 % 2) 1 (bits .1) in
+    (omega arith, omega arith)
+
+not-high : (x : ℕ) → SevenBitWord x → highWord x ≡ false
+not-high x low = rw (ne-eqb (x / 128 % 2) 1 (λ e. omega arith), ne-eqb (x / 32768 % 2) 1 (λ e. omega arith))
+
+-- a command that the kind's header can carry
+abbrev pub CommandLow : Kind → ℕ → Type 0
+CommandLow Packet command = SevenBitWord command
+CommandLow Datagram command = SevenBitWord command
+CommandLow Telegram command = command < 128
+CommandLow Unknown command = Unit {0}
+
+low-command : (K : Kind) (command : ℕ) → command < 65536 → commandHigh K command ≡ false → CommandLow K command
+low-command Packet command fits h = low-word command fits h
+low-command Datagram command fits h = low-word command fits h
+low-command Telegram command fits h = omega (arith, ltb-false 0x7F command h)
+low-command Unknown command fits h = tt
+
+not-high-command : (K : Kind) (command : ℕ) → CommandLow K command → commandHigh K command ≡ false
+not-high-command Packet command low = not-high command low
+not-high-command Datagram command low = not-high command low
+not-high-command Telegram command low = le-ltb 0x7F command (omega arith)
+not-high-command Unknown command low = refl
+
+-- what a header of a kind and its frames can carry
+pub record Carried (K : Kind) (r : Record) : Type 0 where
+  pub known : isUnknown K ≡ false
+  pub destination : SevenBitWord (r .header .destination)
+  pub source : SevenBitWord (r .header .source)
+  pub command : CommandLow K (r .header .command)
+  pub few : framesIn K r ≤ 127
+  pub sized : length (r .payload) ≡ payloadLength K (framesIn K r)
+
+pub carried-of : (K : Kind) (r : Record) → InRange r → first (linesAs K r) ≡ 0 → Carried K r
+carried-of K r range e =
+    let h = r .header in
+    let n = length (r .payload) in
+    let one = line-passed (isUnknown K) 1 _ (omega arith) e in
+    let two = line-passed (highWord (h .destination) || highWord (h .source)) 2 _ (omega arith) (one .1) in
+    let three = line-passed (commandHigh K (h .command)) 3 _ (omega arith) (two .1) in
+    let four = line-passed (lengthWrong K (h .command) n) 4 0 (omega arith) (three .1) in
+    let addresses = neither (highWord (h .destination)) (highWord (h .source)) (two .0) in
+    record {
+      known = one .0;
+      destination = low-word (h .destination) (range .destination) (addresses .0);
+      source = low-word (h .source) (range .source) (addresses .1);
+      command = low-command K (h .command) (range .command) (three .0);
+      few = few-frames K (h .command) n (four .0);
+      sized = right-length K (h .command) n (four .0);
+    }
+
+pub lines-of : (K : Kind) (r : Record) → Carried K r → first (linesAs K r) ≡ 0
+unfolding choose
+lines-of K r carried =
+    simp (
+      carried .known,
+      not-high (r .header .destination) (carried .destination),
+      not-high (r .header .source) (carried .source),
+      not-high-command K (r .header .command) (carried .command),
+      le-ltb 127 (framesIn K r) (carried .few),
+      eq-eqb (length (r .payload)) (payloadLength K (framesIn K r)) (carried .sized),
+    )
+
+-- its stream is as long as the kind and the frames say
+pub carried-length : (K : Kind) (r : Record) → Carried K r → length (streamAs K r) ≡ headerLength K + (frameWidth K + 2) * framesIn K r
+carried-length K r carried =
+    length-stream K r (carried .known)
+    (rw (le-ltb 127 (framesIn K r) (carried .few), eq-eqb (length (r .payload)) (payloadLength K (framesIn K r)) (carried .sized)))
+
+abbrev pub kindIn : Record → Kind
+kindIn r = kindOf (r .header .version)
+
+pub writable-carried : (r : Record) → Writable r → Carried (kindIn r) r
+unfolding unwritable
+writable-carried r w = carried-of (kindIn r) r (w .range) (w .carried)
+
+pub carried-writable : (r : Record) → InRange r → Carried (kindIn r) r → Writable r
+unfolding unwritable
+carried-writable r range carried = record { range = range; carried = lines-of (kindIn r) r carried }
+
+-- ── the refusal, by the record and by the room
+
+module _ (r : Record) (room : ℕ) where
+  four-lines : (a b c d e : Bool) → first ((a, 1) ∷ (b, 2) ∷ (c, 3) ∷ (d, 4) ∷ []) ≡ 0
+      → first ((a, 1) ∷ (b, 2) ∷ (c, 3) ∷ (d, 4) ∷ (e, 5) ∷ []) ≡ choose e 5 0
+  unfolding choose
+  four-lines true b c d e h = absurd (omega arith)
+  four-lines false true c d e h = absurd (omega arith)
+  four-lines false false true d e h = absurd (omega arith)
+  four-lines false false false true e h = absurd (omega arith)
+  four-lines false false false false e h = refl
+
+  -- a writable record is refused only for the room
+  pub writable-refusal : Writable r → refusal r room ≡ choose (ltb room (length (streamOf r))) 5 0
+  unfolding unwritable refusal
+  writable-refusal w = four-lines _ _ _ _ _ (w .carried)
+
+  five-lines : (a b c d e : Bool) → 0 < first ((a, 1) ∷ (b, 2) ∷ (c, 3) ∷ (d, 4) ∷ (e, 5) ∷ []) → first ((a, 1) ∷ (b, 2) ∷ (c, 3) ∷ (d, 4) ∷ (e, 5) ∷ []) < 5
+      → 0 < first ((a, 1) ∷ (b, 2) ∷ (c, 3) ∷ (d, 4) ∷ [])
+  unfolding choose
+  five-lines true b c d e p q = p
+  five-lines false true c d e p q = p
+  five-lines false false true d e p q = p
+  five-lines false false false true e p q = p
+  five-lines false false false false true p q = absurd (omega arith)
+  five-lines false false false false false p q = absurd (omega arith)
+
+  -- a refusal with 1 to 4 is one for any room
+  pub refusal-unwritable : 0 < refusal r room → refusal r room < 5 → 0 < unwritable r
+  unfolding unwritable refusal
+  refusal-unwritable p q = five-lines _ _ _ _ _ p q
+
+  none-of-five : (a b c d e : Bool) → first ((a, 1) ∷ (b, 2) ∷ (c, 3) ∷ (d, 4) ∷ (e, 5) ∷ []) ≡ 0 → (first ((a, 1) ∷ (b, 2) ∷ (c, 3) ∷ (d, 4) ∷ []) ≡ 0) × (e ≡ false)
+  unfolding choose
+  none-of-five true b c d e h = absurd (omega arith)
+  none-of-five false true c d e h = absurd (omega arith)
+  none-of-five false false true d e h = absurd (omega arith)
+  none-of-five false false false true e h = absurd (omega arith)
+  none-of-five false false false false true h = absurd (omega arith)
+  none-of-five false false false false false h = (refl, refl)
+
+  -- a record that isn't refused is writable, and there is room for its stream
+  pub unrefused : InRange r → refusal r room ≡ 0 → Writable r × (length (streamOf r) ≤ room)
+  unfolding unwritable refusal
+  unrefused range e =
+      let (carried, held) = none-of-five _ _ _ _ _ e in
+      (record { range = range; carried = carried }, ltb-false room (length (streamOf r)) held)

@@ -1,0 +1,44 @@
+-- Laws of what fits: what the tests say, and how long a stream is.
+use Prim.Native.Nat.{ℕ, _+_, _*_, _≤_}
+use native.Mathlib.Omega.{arith}
+use mathlib.Core.Path.{_≡_, refl, sym}
+use mathlib.Core.Bool.{Bool, true, false, _||_, not, false≢true}
+use borrow.Author.Tests.{ltb-false, eqb-true, not-false}
+use lib.Dec.{ltb, eqb}
+use lib.ListN.{length, length-append}
+use Rattle.septet.proofs.Laws.{length-lowBits}
+use Rattle.stream.specs.declared.Kind.{Kind}
+use Rattle.stream.specs.declared.Kind.the-variants.{Packet, Datagram, Telegram, Unknown}
+use Rattle.stream.specs.Layout.{headerLength, frameWidth, payloadLength}
+use Rattle.record.specs.Record.{Record, framed, kindBytes, framesOf, framesIn, streamAs}
+use Rattle.record.specs.Encode.{isUnknown, lengthWrong}
+use Rattle.record.proofs.Writing.{framed-length}
+
+-- two tests that both don't apply
+pub neither : (a b : Bool) → (a || b) ≡ false → (a ≡ false) × (b ≡ false)
+neither false b h = (refl, h)
+neither true b h = absurd (false≢true (sym h))
+
+-- a payload's length that isn't wrong
+pub few-frames : (K : Kind) (command n : ℕ) → lengthWrong K command n ≡ false → framesOf K command n ≤ 127
+few-frames K command n h =
+    ltb-false 127 (framesOf K command n) (neither (ltb 127 (framesOf K command n)) (not (eqb n (payloadLength K (framesOf K command n)))) h .0)
+
+pub right-length : (K : Kind) (command n : ℕ) → lengthWrong K command n ≡ false → n ≡ payloadLength K (framesOf K command n)
+right-length K command n h =
+    let right = neither (ltb 127 (framesOf K command n)) (not (eqb n (payloadLength K (framesOf K command n)))) h .1 in
+    eqb-true n (payloadLength K (framesOf K command n)) (not-false _ right)
+
+-- the length of a record's stream, by its kind and its frames
+abbrev pub lengthWritten : Kind → Record → ℕ
+lengthWritten K r = headerLength K + (frameWidth K + 2) * framesIn K r
+
+-- a stream is as long as its kind and its frames say
+pub length-stream : (K : Kind) (r : Record) → isUnknown K ≡ false → lengthWrong K (r .header .command) (length (r .payload)) ≡ false
+    → length (streamAs K r) ≡ lengthWritten K r
+unfolding streamAs kindBytes framesOf framed frameWidth headerLength payloadLength
+length-stream Packet r known h = omega (arith, framed-length 4 (framesIn Packet r) (r .payload) (omega arith))
+length-stream Datagram r known h = simp (length-append, length-lowBits) (omega (arith, right-length Datagram (r .header .command) (length (r .payload)) h))
+length-stream Telegram r known h =
+    omega (arith, framed-length 7 (framesIn Telegram r) (r .payload) (omega (arith, right-length Telegram (r .header .command) (length (r .payload)) h)))
+length-stream Unknown r known h = absurd (false≢true (sym known))

@@ -1,0 +1,4 @@
+pub mod Deliveries
+pub mod Normalizing
+pub mod Nexts
+pub mod Runs

@@ -1,0 +1,4 @@
+pub mod Recording
+pub mod Next
+pub mod Normalize
+pub mod Stage

@@ -1,0 +1,45 @@
+-- A recording normalized: document 01's *wash*, with its refusal 5.
+use Prim.Native.Nat.{ℕ}
+use mathlib.Core.List.{List, [], _∷_, _++_}
+use lib.Dec.{ltb, eqb}
+use lib.ListN.{length}
+use Rattle.basics.specs.Bytes.{over}
+use Rattle.basics.specs.Choice.{choose, first}
+use Rattle.record.specs.Record.{Record, streamOf}
+use Rattle.recording.specs.Recording.{records}
+use Rattle.recording.specs.declared.Normalized.{Normalized}
+use Rattle.recording.specs.declared.Normalized.the-variants.{Written, OutputTooShort}
+
+-- for each record exactly the stream that writing gives for it, with nothing between
+unfoldable pub streams : List Record → List ℕ
+streams [] = []
+streams (r ∷ rest) = streamOf r ++ streams rest
+
+-- document 01: the washed bytes
+abbrev pub normalized : List ℕ → List ℕ
+normalized s = streams (records s)
+
+-- the paper's number of each answer
+abbrev pub number : Normalized → ℕ
+number (Written n) = 0
+number OutputTooShort = 5
+
+-- an answer in the paper's terms: its number, and how many bytes were written or, refused, zero
+pub record Answer : Type 0 where
+  pub number : ℕ
+  pub length : ℕ
+
+abbrev pub answerOf : Normalized → Answer
+answerOf (Written n) = record { number = 0; length = n }
+answerOf OutputTooShort = record { number = 5; length = 0 }
+
+-- 5: the output is shorter than the normalized recording
+unfoldable pub refusal : List ℕ → ℕ → ℕ
+refusal s room = first ((ltb room (length (normalized s)), 5) ∷ [])
+
+abbrev pub normalizingOf : List ℕ → ℕ → Answer
+normalizingOf s room = record { number = refusal s room; length = choose (eqb (refusal s room) 0) (length (normalized s)) 0 }
+
+-- the output afterwards: the normalized recording over its start or, refused, every byte as it was
+abbrev pub outputAfter : List ℕ → List ℕ → List ℕ
+outputAfter s out = choose (eqb (refusal s (length out)) 0) (over (normalized s) out) out

@@ -1,0 +1,51 @@
+// The search for the next whole stream.
+ghost use mathlib.Core.Path.{_≡_};
+ghost use Rattle.recording.specs.Recording.{deliveriesAfter};
+ghost use Rattle.recording.specs.Stage.{NextSync, searched};
+
+// Where a whole stream stands, and how long it is.
+pub struct Span {
+    pub place: usize,
+    pub length: usize,
+}
+
+pub enum Search {
+    At(Span),
+    Nothing,
+}
+
+// The first place from `start` on that holds a sync byte, or one that is not below the input length.
+fn next_sync(input: &[u8], start: usize) -> usize
+    ensures { λ r. ⌜ NextSync (now (input .entry)) start r ⌝ }
+{
+    let mut at = start;
+    while at < input.len() {
+        if input[at] == 0xAA {
+            return at;
+        }
+        at += 1;
+    }
+    at
+}
+
+// The first place from `start` on at which the stretch to the input's end begins with a whole stream.
+pub fn first_whole(input: &[u8], start: usize) -> Search
+    ensures { λ r. ⌜ r ≡ searched (deliveriesAfter (now (input .entry)) start) ⌝ }
+{
+    let mut at = start;
+    loop {
+        at = next_sync(input, at);
+        if at >= input.len() {
+            break Search::Nothing;
+        }
+        let validation = stream::validate(&input[at..]);
+        let verdict = validation.verdict;
+        if verdict.number() == 0 {
+            break Search::At(Span {
+                place: at,
+                length: validation.offset,
+            });
+        }
+        at += 1;
+    }
+}
