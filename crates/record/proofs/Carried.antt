@@ -2,10 +2,10 @@
 use Prim.Native.Nat.{ℕ, _+_, _*_, _/_, _%_, _<_, _≤_}
 use native.Mathlib.Omega.{arith}
 use mathlib.Core.Path.{_≡_, refl}
-use mathlib.Core.Bool.{Bool, true, false, _||_, not}
-use mathlib.Core.List.{[], _∷_, _++_}
+use mathlib.Core.Bool.{Bool, true, false, _||_}
+use mathlib.Core.List.{[], _∷_}
 use borrow.Author.Tests.{ne-eqb, eq-eqb, eqb-false, le-ltb, ltb-false}
-use lib.Dec.{eqb, ltb}
+use lib.Dec.{ltb}
 use lib.ListN.{length}
 use Rattle.basics.specs.Choice.{choose, first}
 use Rattle.basics.specs.Words.{hasBit, highWord}
@@ -13,7 +13,7 @@ use Rattle.basics.proofs.Choice.{line-passed}
 use Rattle.stream.specs.Layout.{kindOf, headerLength, frameWidth, payloadLength}
 use Rattle.stream.specs.declared.Kind.{Kind}
 use Rattle.stream.specs.declared.Kind.the-variants.{Packet, Datagram, Telegram, Unknown}
-use Rattle.record.specs.Record.{Record, framesOf, framesIn, streamAs, streamOf}
+use Rattle.record.specs.Record.{Record, framesIn, streamAs, streamOf}
 use Rattle.record.specs.Encode.{isUnknown, commandHigh, lengthWrong, linesAs, unwritable, refusal, InRange, Writable}
 use Rattle.record.proofs.Lengths.{neither, few-frames, right-length, length-stream}
 

@@ -4,21 +4,21 @@ use native.Mathlib.Omega.{arith}
 use mathlib.Core.Path.{_≡_, refl, sym, ap, subst, _∙_}
 use mathlib.Core.Bool.{true≢false}
 use mathlib.Core.Logic.{_↔_}
-use mathlib.Core.List.{List, [], _∷_, _++_, append-assoc}
+use mathlib.Core.List.{List, _∷_, _++_, append-assoc}
 use lib.ListN.{length, getD, drop, length-append, List·getD-append, take-append-drop}
 use lib.Seq.{drop-at}
 use Rattle.basics.specs.Bytes.{AllBelow}
 use Rattle.basics.proofs.Bytes.{all-append, getD-below}
 use Rattle.checksum.specs.Checksum.{checksumOf}
 use Rattle.septet.proofs.Laws.{septetOf-unused, withTopBits-septetOf}
-use Rattle.stream.specs.Layout.{kindOf, headerLength, frameWidth, frameCount, streamLength, payloadLength, telegramFrames}
+use Rattle.stream.specs.Layout.{headerLength, frameWidth, frameCount, streamLength, payloadLength}
 use Rattle.stream.specs.Validation.{Answer, validationOf}
 use Rattle.stream.specs.declared.Kind.{Kind}
 use Rattle.stream.specs.declared.Kind.the-variants.{Packet, Datagram, Telegram, Unknown}
 use Rattle.stream.proofs.Headers.{length-as}
 use Rattle.stream.proofs.Reached.{clean-whole}
 use Rattle.stream.proofs.Whole.{WholeStream, HeaderUnused, HeaderSum, frame-drop, clean-of-whole, known-below, frameWidth-most}
-use Rattle.record.specs.Encode.{unwritable, refusal, isUnknown, Writable}
+use Rattle.record.specs.Encode.{refusal, isUnknown, Writable}
 use Rattle.record.specs.Record.{Record, withChecksum, framed, framesOf, framesIn, addressBytes, kindBytes, streamAs, streamOf, recordOf, commandIn, payloadIn}
 use Rattle.record.proofs.Carried.{Carried, carried-length, kindIn, writable-carried, refusal-unwritable}
 use Rattle.record.proofs.Frames.{withSeptet-below, withChecksum-below, withSeptet-septet, withSeptet-low, withChecksum-block, withChecksum-sum, framed-below, framed-right, unframed-framed}
@@ -186,9 +186,14 @@ module _ (r : Record) (w : Writable r) where
 -- a stretch begins with a whole stream exactly if it begins with what is written for some writable record, and that record is read
 pub whole-exactly : (s : List ℕ) → (validationOf s .number ≡ 0) ↔ ((r : Record) × (t : List ℕ) × Writable r × (recordOf s ≡ r) × (s ≡ streamOf r ++ t))
 whole-exactly s = (
-  (λ w. (recordOf s, drop (validationOf s .offset) s, whole-writable s w, refl,
-    sym (ap (λ (l : List ℕ). l ++ drop (validationOf s .offset) s) (whole-again s w) ∙ take-append-drop (validationOf s .offset) s))),
-  (λ (r, t, w, read, e). ap (λ (l : List ℕ). validationOf l .number) e ∙ ap (λ (v : Answer). v .number) (read-back r w t .0))
+  (λ w. (
+    recordOf s,
+    drop (validationOf s .offset) s,
+    whole-writable s w,
+    refl,
+    sym (ap (λ (l : List ℕ). l ++ drop (validationOf s .offset) s) (whole-again s w) ∙ take-append-drop (validationOf s .offset) s),
+  )),
+  (λ (r, t, w, read, e). ap (λ (l : List ℕ). validationOf l .number) e ∙ ap (λ (v : Answer). v .number) (read-back r w t .0)),
 )
 
 -- a record that writing refuses with 1 to 4 is the record of no whole stream

@@ -12,7 +12,7 @@ use Rattle.basics.proofs.Bytes.{take-below}
 use Rattle.checksum.specs.Checksum.{checksumOf}
 use Rattle.septet.specs.Septet.{withTopBits}
 use Rattle.septet.proofs.Laws.{length-withTopBits, withTopBits-below, unused-below}
-use Rattle.stream.specs.Layout.{kind, headerLength, frameWidth, frameCount, lengthAs, streamLength, payloadLength, telegramFrames}
+use Rattle.stream.specs.Layout.{kind, headerLength, frameWidth, frameCount, lengthAs, payloadLength, telegramFrames}
 use Rattle.stream.specs.Validation.{validationOf}
 use Rattle.stream.specs.declared.Kind.{Kind}
 use Rattle.stream.specs.declared.Kind.the-variants.{Packet, Datagram, Telegram, Unknown}
@@ -20,7 +20,7 @@ use Rattle.stream.proofs.Headers.{headerLength-most, length-as}
 use Rattle.stream.proofs.Reached.{whole-clean}
 use Rattle.stream.proofs.Whole.{WholeAs, FrameRight, whole-of-clean, drop-frame}
 use Rattle.record.specs.Encode.{isUnknown, InRange, Writable}
-use Rattle.record.specs.Record.{Record, withChecksum, withSeptet, framed, framesOf, framesIn, addressBytes, kindBytes, streamAs, streamOf, recordAs, recordOf, commandIn, payloadIn}
+use Rattle.record.specs.Record.{withChecksum, withSeptet, framed, framesOf, framesIn, addressBytes, kindBytes, streamAs, streamOf, recordAs, recordOf, commandIn, payloadIn}
 use Rattle.record.proofs.Carried.{Carried, CommandLow, carried-length, carried-writable}
 use Rattle.record.proofs.Frames.{take-next, withSeptet-again, unframed-length, unframed-below, framed-unframed}
 
@@ -83,7 +83,7 @@ command-as Datagram s whole =
 command-as Telegram s whole = header-low Telegram s whole 6 (omega arith) (omega arith)
 command-as Unknown s whole = tt
 
-few-as : (K : Kind) (s : List ℕ) → WholeAs K s → frameCount K s ≤ 127
+pub few-as : (K : Kind) (s : List ℕ) → WholeAs K s → frameCount K s ≤ 127
 unfolding frameCount headerLength
 few-as Packet s whole = omega (arith, header-low Packet s whole 8 (omega arith) (omega arith))
 few-as Datagram s whole = omega arith

@@ -1,24 +1,25 @@
 -- Laws of the deliveries: where no stream begins, what a whole stream delivers, and what comes first.
 use Prim.Native.Nat.{ℕ, zero, suc, _+_, _-_, _<_, _≤_}
 use native.Mathlib.Omega.{arith}
-use native.Mathlib.Nat.{add-zero, add-suc, suc-add}
+use native.Mathlib.Nat.{add-zero}
 use native.Mathlib.Numerals.{add-one}
 use native.Mathlib.Decide.{ℕ-discrete, decLt}
 use mathlib.Core.Path.{_≡_, refl, sym, ap, subst, _∙_}
 use mathlib.Core.Logic.{dite}
 use mathlib.Core.List.{List, [], _∷_, _++_}
-use borrow.Author.Tests.{eq-eqb, ne-eqb, eqb-true, eqb-false}
-use lib.ListN.{length, getD, take, drop, drop-of-length-le, take-append-drop, length-drop}
+use borrow.Author.Tests.{eq-eqb, ne-eqb}
+use lib.ListN.{length, getD, take, drop, drop-of-length-le, take-append-drop}
 use lib.Seq.{drop-cons, drop-drop, getD-drop, length-take-le}
 use Rattle.basics.specs.Bytes.{AllBelow}
 use Rattle.basics.specs.Choice.{choose}
 use Rattle.basics.proofs.Bytes.{take-below}
-use Rattle.basics.proofs.Choice.{choose-by}
-use Rattle.stream.specs.Layout.{kind}
+use Rattle.stream.specs.Layout.{kind, headerLength}
 use Rattle.stream.specs.Validation.{validationOf}
-use Rattle.stream.proofs.Headers.{headerLength-most}
+use Rattle.stream.specs.declared.Kind.{Kind}
+use Rattle.stream.specs.declared.Kind.the-variants.{Packet, Datagram, Telegram, Unknown}
+use Rattle.stream.proofs.Whole.{WholeAs}
 use Rattle.record.specs.Record.{Record, recordOf}
-use Rattle.record.proofs.Written.{Parts, whole-parts}
+use Rattle.record.proofs.Written.{whole-parts}
 use Rattle.recording.specs.Recording.{Delivery, deliveryAt, deliveriesFrom, deliveriesAfter, contentsOf, records}
 
 abbrev pub Whole : List ℕ → Type 0
@@ -32,10 +33,17 @@ whole-sync s w = whole-parts s w .whole .sync
 pub whole-low : (s : List ℕ) → Whole s → (k : ℕ) → 0 < k → k < validationOf s .offset → getD s k 0 < 128
 whole-low s w k pos h = whole-parts s w .whole .low k pos (omega (arith, whole-parts s w .sized))
 
-pub whole-long : (s : List ℕ) → Whole s → (6 ≤ validationOf s .offset) × (validationOf s .offset ≤ length s)
+eight : (K : Kind) (s : List ℕ) → WholeAs K s → 8 ≤ headerLength K
+unfolding headerLength
+eight Packet s whole = omega arith
+eight Datagram s whole = omega arith
+eight Telegram s whole = omega arith
+eight Unknown s whole = absurd (whole .sum)
+
+pub whole-long : (s : List ℕ) → Whole s → (8 ≤ validationOf s .offset) × (validationOf s .offset ≤ length s)
 whole-long s w =
     let parts = whole-parts s w in
-    (omega (arith, parts .sized, headerLength-most (kind s)), omega (arith, parts .sized, parts .held))
+    (omega (arith, parts .sized, eight (kind s) s (parts .whole)), omega (arith, parts .sized, parts .held))
 
 -- document 01: no two streams overlap, because no byte after a stream's first is 0xAA
 pub no-overlap : (s : List ℕ) (p q : ℕ) → Whole (drop p s) → Whole (drop q s) → p < q → p + validationOf (drop p s) .offset ≤ q

@@ -120,13 +120,13 @@ pub next-none : (s : List ℕ) (start room : ℕ)
     → ((nextOf s start room .number ≡ 0) × (nextOf s start room .found ≡ false)) ↔ ((start ≤ length s) × NoneAfter s start)
 next-none s start room = (
   (λ (number, unfound).
-  let e = number-refusal s start room number in
-  (unrefused-within s start room e, empty-none s start (deliveriesAfter s start) (first-after s start) (rw (next-answers s start room e) at unfound))),
+      let e = number-refusal s start room number in
+      (unrefused-within s start room e, empty-none s start (deliveriesAfter s start) (first-after s start) (rw (next-answers s start room e) at unfound))),
   (λ (within, free).
-  let empty = none-empty s start (deliveriesAfter s start) (first-after s start) free in
-  let answer : nextOf s start room ≡ without 0 =
-  next-answers s start room (refusal-none s start room within (rw empty (omega arith))) ∙ ap firstOf empty in
-  (ap (λ (a : Answer). a .number) answer, ap (λ (a : Answer). a .found) answer)),
+      let empty = none-empty s start (deliveriesAfter s start) (first-after s start) free in
+      let answer : nextOf s start room ≡ without 0 =
+      next-answers s start room (refusal-none s start room within (rw empty (omega arith))) ∙ ap firstOf empty in
+      (ap (λ (a : Answer). a .number) answer, ap (λ (a : Answer). a .found) answer)),
 )
 
 -- ── what was written is found

@@ -13,7 +13,7 @@ use Rattle.record.specs.Record.{Record, recordOf, streamOf}
 use Rattle.record.proofs.ReadBack.{read-back}
 use Rattle.record.proofs.Written.{whole-writable, whole-length}
 use Rattle.recording.specs.Normalize.{streams, normalized}
-use Rattle.recording.specs.Recording.{Delivery, deliveriesFrom, deliveriesAfter, contentsOf, records}
+use Rattle.recording.specs.Recording.{deliveriesFrom, deliveriesAfter, contentsOf, records}
 use Rattle.recording.proofs.Deliveries.{Whole, whole-long, first-whole, after-ind, contents-moved}
 
 -- a written stream delivers its record, and then what is behind it

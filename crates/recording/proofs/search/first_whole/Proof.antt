@@ -1,0 +1,92 @@
+-- `recording::search::first_whole` meets its contract: what is delivered from here on is what is delivered from the start on. Assumes nothing.
+use borrow.Author.Needs.{needs}
+use Prim.Native.Nat.{_-_}
+use native.Mathlib.Omega.{arith}
+use mathlib.Core.Path.{_≡_, refl, sym, ap, _∙_}
+use lib.ListN.{length, drop}
+use Rattle.basics.proofs.Over.{part}
+use Rattle.stream.specs.Validation.{Answer, validationOf}
+use Rattle.recording.specs.Recording.{deliveriesAfter}
+use Rattle.recording.specs.Stage.{searched}
+use Rattle.recording.specs.declared.search.Search.the-variants.{At}
+use Rattle.recording.proofs.Deliveries.{after-end, after-on, after-here}
+use Rattle.recording.proofs.Reading.{after-sync}
+use Rattle.recording.proofs.search.first_whole.Statement.{statement}
+use Rattle.recording.proofs.search.first_whole.Tie as tie
+
+abbrev Inv-loop : tie.InvT-loop
+Inv-loop input start at₀ at = deliveriesAfter input at ≡ deliveriesAfter input start
+
+abbrev μ-loop : tie.MeasureT-loop
+μ-loop input start at₀ at = length input - at
+
+loop-holds : tie.Need-loop-holds Inv-loop μ-loop
+loop-holds c = refl
+
+next-sync-requires : tie.Need-next-sync-requires Inv-loop μ-loop
+next-sync-requires c κs = search needs
+
+sub-validate : tie.Need-sub-validate Inv-loop μ-loop
+sub-validate c = search needs
+
+part-validate-start : tie.Need-part-validate-start Inv-loop μ-loop
+part-validate-start c = search needs
+
+part-validate-end : tie.Need-part-validate-end Inv-loop μ-loop
+part-validate-end c = search needs
+
+validate-requires : tie.Need-validate-requires Inv-loop μ-loop
+validate-requires c κs = search needs
+
+number-requires : tie.Need-number-requires Inv-loop μ-loop
+number-requires c κs = search needs
+
+add-at : tie.Need-add-at Inv-loop μ-loop
+add-at c = search needs
+
+loop-less : tie.Need-loop-less Inv-loop μ-loop
+loop-less c = search needs
+
+loop-again : tie.Need-loop-again Inv-loop μ-loop
+loop-again c =
+    let s = c .before .before .before .before .before .before .before .before .args .input .now in
+    let r = c .before .before .before .before .before .next-sync .result in
+    let at = after-sync s (c .before .before .before .before .before .before .loop .at) r (c .before .before .before .before .before .next-sync .ensures) in
+    let answer = rw part at (c .before .before .validate .ensures) in
+    let number : c .before .number .result ≡ validationOf (drop r s) .number = c .before .number .ensures ∙ ap (λ (a : Answer). a .number) answer in
+    sym (at ∙ after-on s r (omega arith) (λ w. c .if2 .left (number ∙ w))) ∙ c .before .before .before .before .before .before .loop .inv
+
+returns : tie.Need-returns Inv-loop μ-loop
+returns c =
+    let s = c .before .before .before .before .args .input .now in
+    let at = after-sync s (c .before .before .loop .at) (c .before .next-sync .result) (c .before .next-sync .ensures) in
+    ap searched (sym (after-end s (c .before .next-sync .result) (omega arith)) ∙ sym at ∙ c .before .before .loop .inv)
+
+returns-2 : tie.Need-returns-2 Inv-loop μ-loop
+returns-2 c =
+    let s = c .before .before .before .before .before .before .before .before .args .input .now in
+    let r = c .before .before .before .before .before .next-sync .result in
+    let at = after-sync s (c .before .before .before .before .before .before .loop .at) r (c .before .before .before .before .before .next-sync .ensures) in
+    let answer = rw part at (c .before .before .validate .ensures) in
+    let number : c .before .number .result ≡ validationOf (drop r s) .number = c .before .number .ensures ∙ ap (λ (a : Answer). a .number) answer in
+    let here = after-here s r (sym number ∙ c .if2 .taken) in
+    ap (λ (a : Answer). At (record { place = r; length = a .offset })) answer ∙ ap searched (sym here ∙ sym at ∙ c .before .before .before .before .before .before .loop .inv)
+
+pub first-whole-spec : {M : Type 1} → statement M
+first-whole-spec =
+    tie.close
+    (tie.spec
+    Inv-loop
+    μ-loop
+    loop-holds
+    next-sync-requires
+    sub-validate
+    part-validate-start
+    part-validate-end
+    validate-requires
+    number-requires
+    add-at
+    loop-less
+    loop-again
+    returns
+    returns-2)
