@@ -2,8 +2,8 @@
 ghost use mathlib.Core.Path.{_≡_};
 ghost use lib.ListN.{length, drop};
 ghost use Rattle.record.specs.Record.{recordOf};
-ghost use Rattle.recording.specs.Next.{nextOf};
-ghost use Rattle.recording.specs.Normalize.{normalizingOf};
+ghost use Rattle.recording.specs.Next as nexts;
+ghost use Rattle.recording.specs.Normalize as normalizing;
 ghost use Rattle.recording.specs.Stage.{WholeAt, outputOf, deliveredOf};
 
 mod read;
@@ -37,7 +37,7 @@ pub enum NextRecord {
 impl NextRecord {
     // The paper's number: 0, or the refusal's.
     pub fn number(self) -> u32
-        ensures { λ r. ⌜ r ≡ Rattle.recording.specs.Next.number self ⌝ }
+        ensures { λ r. ⌜ r ≡ nexts.number self ⌝ }
     {
         match self {
             NextRecord::Found(_) => 0,
@@ -59,7 +59,7 @@ pub enum Normalized {
 impl Normalized {
     // The paper's number: 0, or the refusal's.
     pub fn number(self) -> u32
-        ensures { λ r. ⌜ r ≡ Rattle.recording.specs.Normalize.number self ⌝ }
+        ensures { λ r. ⌜ r ≡ normalizing.number self ⌝ }
     {
         match self {
             Normalized::Written(_) => 0,
@@ -71,7 +71,7 @@ impl Normalized {
 // Hands out the record of a whole stream.
 fn deliver(input: &[u8], span: Span, out: &mut [u8]) -> NextRecord
     requires { ⌜ WholeAt (now input) span ⌝ }
-    ensures { λ r. ⌜ Rattle.recording.specs.Next.answerOf r ≡ deliveredOf (now (input .entry)) (span .place) (length (now (out .entry))) ⌝ }
+    ensures { λ r. ⌜ nexts.answerOf r ≡ deliveredOf (now (input .entry)) (span .place) (length (now (out .entry))) ⌝ }
     ensures { λ r. ⌜ now (out .exit) ≡ outputOf (recordOf (drop (span .place) (now (input .entry))) .payload) (now (out .entry)) ⌝ }
 {
     let place = span.place;
@@ -91,8 +91,8 @@ fn deliver(input: &[u8], span: Span, out: &mut [u8]) -> NextRecord
 // The record of the first whole stream at or after `start`, its payload at the start of `out`.
 // A refusal, and the answer that there is none, leave every byte of `out` as it was.
 pub fn next(input: &[u8], start: usize, out: &mut [u8]) -> NextRecord
-    ensures { λ r. ⌜ Rattle.recording.specs.Next.answerOf r ≡ nextOf (now (input .entry)) start (length (now (out .entry))) ⌝ }
-    ensures { λ r. ⌜ now (out .exit) ≡ Rattle.recording.specs.Next.outputAfter (now (input .entry)) start (now (out .entry)) ⌝ }
+    ensures { λ r. ⌜ nexts.answerOf r ≡ nexts.nextOf (now (input .entry)) start (length (now (out .entry))) ⌝ }
+    ensures { λ r. ⌜ now (out .exit) ≡ nexts.outputAfter (now (input .entry)) start (now (out .entry)) ⌝ }
 {
     if input.len() < start {
         return NextRecord::StartPastEnd;
@@ -106,8 +106,8 @@ pub fn next(input: &[u8], start: usize, out: &mut [u8]) -> NextRecord
 // Writes the records of a recording again, end to end, to the start of `out` (document 01: wash).
 // A refusal leaves every byte of `out` as it was.
 pub fn normalize(input: &[u8], out: &mut [u8]) -> Normalized
-    ensures { λ r. ⌜ Rattle.recording.specs.Normalize.answerOf r ≡ normalizingOf (now (input .entry)) (length (now (out .entry))) ⌝ }
-    ensures { λ r. ⌜ now (out .exit) ≡ Rattle.recording.specs.Normalize.outputAfter (now (input .entry)) (now (out .entry)) ⌝ }
+    ensures { λ r. ⌜ normalizing.answerOf r ≡ normalizing.normalizingOf (now (input .entry)) (length (now (out .entry))) ⌝ }
+    ensures { λ r. ⌜ now (out .exit) ≡ normalizing.outputAfter (now (input .entry)) (now (out .entry)) ⌝ }
 {
     // No normalized recording is longer than the recording, so only a shorter output is measured against.
     if out.len() < input.len() {
