@@ -9,13 +9,13 @@ use lib.Dec.{ltb}
 use lib.ListN.{length}
 use Rattle.basics.specs.Choice.{choose, first}
 use Rattle.basics.specs.Words.{hasBit, highWord}
-use Rattle.basics.proofs.Choice.{line-passed}
+use Rattle.basics.proofs.Choice.{line-passed, neither}
 use Rattle.stream.specs.Layout.{kindOf, headerLength, frameWidth, payloadLength}
 use Rattle.stream.specs.declared.Kind.{Kind}
 use Rattle.stream.specs.declared.Kind.the-variants.{Packet, Datagram, Telegram, Unknown}
 use Rattle.record.specs.Record.{Record, framesIn, streamAs, streamOf}
 use Rattle.record.specs.Encode.{isUnknown, commandHigh, lengthWrong, linesAs, unwritable, refusal, InRange, Writable}
-use Rattle.record.proofs.Lengths.{neither, few-frames, right-length, length-stream}
+use Rattle.record.proofs.Lengths.{few-frames, right-length, length-stream}
 
 -- both bytes of a word are without their top bits
 abbrev pub SevenBitWord : ℕ → Type 0

@@ -2,10 +2,11 @@
 use Prim.Native.Nat.{ℕ, _+_, _*_, _≤_}
 use native.Mathlib.Omega.{arith}
 use mathlib.Core.Path.{_≡_, refl, sym}
-use mathlib.Core.Bool.{Bool, true, false, _||_, not, false≢true}
+use mathlib.Core.Bool.{false, not, false≢true}
 use borrow.Author.Tests.{ltb-false, eqb-true, not-false}
 use lib.Dec.{ltb, eqb}
 use lib.ListN.{length, length-append}
+use Rattle.basics.proofs.Choice.{neither}
 use Rattle.septet.proofs.Laws.{length-lowBits}
 use Rattle.stream.specs.declared.Kind.{Kind}
 use Rattle.stream.specs.declared.Kind.the-variants.{Packet, Datagram, Telegram, Unknown}
@@ -13,11 +14,6 @@ use Rattle.stream.specs.Layout.{headerLength, frameWidth, payloadLength}
 use Rattle.record.specs.Record.{Record, framed, kindBytes, framesOf, framesIn, streamAs}
 use Rattle.record.specs.Encode.{isUnknown, lengthWrong}
 use Rattle.record.proofs.Writing.{framed-length}
-
--- two tests that both don't apply
-pub neither : (a b : Bool) → (a || b) ≡ false → (a ≡ false) × (b ≡ false)
-neither false b h = (refl, h)
-neither true b h = absurd (false≢true (sym h))
 
 -- a payload's length that isn't wrong
 pub few-frames : (K : Kind) (command n : ℕ) → lengthWrong K command n ≡ false → framesOf K command n ≤ 127

@@ -24,16 +24,6 @@ length-withChecksum block = simp length-append
 pub length-frame : (block : List ℕ) → length (withChecksum (withSeptet block)) ≡ length block + 2
 length-frame block = rw (length-withChecksum, length-withSeptet) (omega arith)
 
-pub framed-length : (width n : ℕ) (payload : List ℕ) → width * n ≤ length payload → length (framed width n payload) ≡ (width + 2) * n
-unfolding framed
-framed-length width zero payload enough = sym (mul-zero (width + 2))
-framed-length width (suc n) payload enough =
-    let less : width * suc n ≡ width * n + width = mul-suc width n in
-    let full : length (take width payload) ≡ width = length-take-le width payload (omega arith) in
-    let rest : length (framed width n (drop width payload)) ≡ (width + 2) * n =
-    framed-length width n (drop width payload) (omega (arith, length-drop width payload)) in
-    rw (length-append, length-frame, full, rest) (omega (arith, mul-suc (width + 2) n))
-
 -- ── checksums
 
 -- a checksum behind the first n
@@ -65,3 +55,13 @@ pub framed-step : (width n : ℕ) (payload : List ℕ) → 0 < n
     → framed width n payload ≡ withChecksum (withSeptet (take width payload)) ++ framed width (n - 1) (drop width payload)
 unfolding framed
 framed-step width n payload h = let e : n ≡ suc (n - 1) = omega arith in ap (λ (m : ℕ). framed width m payload) e
+
+pub framed-length : (width n : ℕ) (payload : List ℕ) → width * n ≤ length payload → length (framed width n payload) ≡ (width + 2) * n
+unfolding framed
+framed-length width zero payload enough = sym (mul-zero (width + 2))
+framed-length width (suc n) payload enough =
+    let less : width * suc n ≡ width * n + width = mul-suc width n in
+    let full : length (take width payload) ≡ width = length-take-le width payload (omega arith) in
+    let rest : length (framed width n (drop width payload)) ≡ (width + 2) * n =
+    framed-length width n (drop width payload) (omega (arith, length-drop width payload)) in
+    rw (length-append, length-frame, full, rest) (omega (arith, mul-suc (width + 2) n))

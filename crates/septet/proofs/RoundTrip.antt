@@ -1,7 +1,7 @@
 -- What `extract` and `inject` answer when each is handed the other's answer. Assumes nothing.
 use Prim.Native.Nat.{ℕ, _<_, _≤_, _^_}
 use native.Mathlib.Omega.{arith}
-use mathlib.Core.Bool.{Bool, true, false, _||_, true≢false}
+use mathlib.Core.Bool.{Bool, true, false, _||_}
 use mathlib.Core.Path.{_≡_, refl, _∙_}
 use mathlib.Core.List.{List, [], _∷_}
 use lib.Dec.{leb, ltb}
@@ -11,6 +11,7 @@ use borrow.Author.Tests.{ltb-false, leb-false, eqb-true, not-false, lt-leb, eq-e
 use Rattle.basics.specs.Choice.{choose}
 use Rattle.basics.specs.Bytes.{AllBelow}
 use Rattle.basics.proofs.Bytes.{all-take}
+use Rattle.basics.proofs.Choice.{neither}
 use Rattle.septet.specs.declared.Block.{Block}
 use Rattle.septet.specs.Septet.{septetOf, lowBits, withTopBits, unusedBits}
 use Rattle.septet.specs.Block.{refused, padded, extracted, injected, anyHigh, unfit}
@@ -21,10 +22,6 @@ passed : (test : Bool) (block : Block) → choose test refused block .number ≡
 unfolding choose
 passed true block e = absurd (omega arith)
 passed false block e = refl
-
-neither : (a b : Bool) → (a || b) ≡ false → (a ≡ false) × (b ≡ false)
-neither true b e = absurd (true≢false e)
-neither false b e = (refl, e)
 
 anyHigh-below : (b : List ℕ) → AllBelow 128 b → anyHigh b ≡ false
 unfolding anyHigh
