@@ -3,3 +3,4 @@ pub mod Faults
 pub mod Frames
 pub mod Headers
 pub mod Whole
+pub mod Samples

@@ -4,8 +4,10 @@ use native.Mathlib.Omega.{arith}
 use native.Mathlib.Nat.{mul-suc, mul-comm, mul-le-mul-left, mod-lt, div-add-mod, div-lt-iff-lt-mul, eq-zero-or-pos, add-assoc}
 use native.Mathlib.Decide.{decLt}
 use mathlib.Core.Path.{_≡_, refl, sym, _∙_}
+use mathlib.Core.Bool.{true}
 use mathlib.Core.Logic.{⊎-elim, dite}
 use mathlib.Core.List.{List}
+use lib.Dec.{eqb}
 use lib.ListN.{getD, take, drop}
 use lib.Seq.{getD-drop, drop-drop}
 use borrow.Author.Tests.{eqb-true}
@@ -168,13 +170,16 @@ drop-frame width s base k right =
 pub known-below : (version : ℕ) → (kindOf version ≡ Unknown → ⊥) → version < 0x80
 unfolding kindOf
 known-below version =
-    choose-by Known _ (λ e h. omega (arith, eqb-true version 0x10 e))
-    (λ d. choose-by Known _ (λ e h. omega (arith, eqb-true version 0x20 e))
-    (λ d. choose-by Known _ (λ e h. omega (arith, eqb-true version 0x30 e))
-    (λ d. choose-by Known _ (λ e h. omega (arith, eqb-true version 0x31 e)) (λ e h. absurd (h refl)))))
+    choose-by Known _ (low _ (omega arith))
+    (λ d. choose-by Known _ (low _ (omega arith))
+    (λ d. choose-by Known _ (low _ (omega arith))
+    (λ d. choose-by Known _ (low _ (omega arith)) (λ e h. absurd (h refl)))))
   where
     Known : Kind → Type 0
     Known K = (K ≡ Unknown → ⊥) → version < 0x80
+
+    low : {K : Kind} (n : ℕ) → n < 0x80 → eqb version n ≡ true → Known K
+    low n small e h = let same = eqb-true version n e in omega arith
 
 pub frameWidth-most : (K : Kind) → frameWidth K ≤ 7
 unfolding frameWidth
