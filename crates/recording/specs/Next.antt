@@ -41,10 +41,10 @@ without n =
 
 abbrev pub answerOf : NextRecord → Answer
 answerOf (Found d) =
-    record { number = 0; found = true; place = d .place; length = d .length; header = d .header; payload = d .«payload_length» }
-answerOf Nothing = without 0
-answerOf StartPastEnd = without 6
-answerOf OutputTooShort = without 5
+    record { number = number (Found d); found = true; place = d .place; length = d .length; header = d .header; payload = d .«payload_length» }
+answerOf Nothing = without (number Nothing)
+answerOf StartPastEnd = without (number StartPastEnd)
+answerOf OutputTooShort = without (number OutputTooShort)
 
 -- of the deliveries at or after the starting place, the first; or "none"
 abbrev pub firstOf : List Delivery → Answer

@@ -29,9 +29,12 @@ pub record Answer : Type 0 where
   pub number : ℕ
   pub length : ℕ
 
+abbrev pub lengthIn : Normalized → ℕ
+lengthIn (Written n) = n
+lengthIn OutputTooShort = 0
+
 abbrev pub answerOf : Normalized → Answer
-answerOf (Written n) = record { number = 0; length = n }
-answerOf OutputTooShort = record { number = 5; length = 0 }
+answerOf e = record { number = number e; length = lengthIn e }
 
 -- 5: the output is shorter than the normalized recording
 unfoldable pub refusal : List ℕ → ℕ → ℕ

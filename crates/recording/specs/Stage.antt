@@ -16,7 +16,7 @@ use Rattle.recording.specs.declared.search.Span.{Span}
 use Rattle.recording.specs.declared.search.Search.{Search}
 use Rattle.recording.specs.declared.search.Search.the-variants.{At, Nothing}
 
--- no sync byte stands from `start` up to r, and one stands at r or the input ends there
+-- no sync byte stands from `start` up to r
 pub record NextSync (s : List ℕ) (start r : ℕ) : Type 0 where
   pub after : start ≤ r
   pub passed : (k : ℕ) → k < r → start ≤ k → k < length s → getD s k 0 ≡ 0xAA → ⊥

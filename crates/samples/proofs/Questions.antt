@@ -1,0 +1,88 @@
+-- Questions to the definitions of specs/, each with the answer in numbers that they give.
+use Prim.Native.Nat.{ℕ, suc}
+use mathlib.Core.Bool.{Bool, true, false}
+use mathlib.Core.List.{List, [], _∷_, _++_}
+use lib.IntN.{ℤ, pos, negsuc}
+use lib.ListN.{replicate}
+use Rattle.checksum.specs.Checksum.{checksumOf}
+use Rattle.septet.specs.Block.{extracted, injected}
+use Rattle.septet.specs.declared.Block.{Block}
+use Rattle.stream.specs.Validation.{validationOf}
+use Rattle.stream.specs.Validation as Verdicts
+use Rattle.stream.specs.declared.Validation.{Validation}
+use Rattle.record.specs.Record.{Record, recordOf}
+use Rattle.record.specs.Encode.{unwritable, encodingOf}
+use Rattle.record.specs.Encode as Encodings
+use Rattle.record.specs.Value.{valueOf}
+use Rattle.record.specs.declared.Header.{Header}
+use Rattle.record.specs.declared.Encoded.{Encoded}
+use Rattle.recording.specs.Next.{nextOf}
+use Rattle.recording.specs.Next as Nexts
+use Rattle.recording.specs.Normalize.{normalizingOf}
+use Rattle.recording.specs.Normalize as Normals
+use Rattle.recording.specs.declared.NextRecord.{NextRecord}
+use Rattle.recording.specs.declared.Normalized.{Normalized}
+
+-- an output is given by its room
+pub data Question : Type 0 where
+  checksum : List ℕ → Question
+  extract : List ℕ → ℕ → Question
+  inject : List ℕ → ℕ → ℕ → Question
+  validate : List ℕ → Question
+  read : List ℕ → Question
+  carry : Record → Question
+  encode : Record → ℕ → Question
+  value : List ℕ → Question
+  next : List ℕ → ℕ → ℕ → Question
+  normalize : List ℕ → ℕ → Question
+  validation : Validation → Question
+  encoded : Encoded → Question
+  nextRecord : NextRecord → Question
+  normalized : Normalized → Question
+
+-- an output before a call
+abbrev pub untouched : ℕ → List ℕ
+untouched room = replicate room 0xEE
+
+abbrev blockTold : Block → List ℕ
+blockTold b = b .number ∷ b .length ∷ b .septet ∷ b .bytes
+
+abbrev headerTold : Header → List ℕ
+headerTold h = h .version ∷ h .destination ∷ h .source ∷ h .command ∷ []
+
+-- the sign and the magnitude
+abbrev signedTold : ℤ → List ℕ
+signedTold (pos n) = 0 ∷ n ∷ []
+signedTold (negsuc n) = 1 ∷ suc n ∷ []
+
+abbrev boolTold : Bool → ℕ
+boolTold true = 1
+boolTold false = 0
+
+abbrev validationTold : Verdicts.Answer → List ℕ
+validationTold a = a .number ∷ a .offset ∷ []
+
+abbrev encodedTold : Encodings.Answer → List ℕ
+encodedTold a = a .number ∷ a .length ∷ []
+
+abbrev nextTold : Nexts.Answer → List ℕ
+nextTold a = a .number ∷ boolTold (a .found) ∷ a .place ∷ a .length ∷ (headerTold (a .header) ++ (a .payload ∷ []))
+
+abbrev normalizedTold : Normals.Answer → List ℕ
+normalizedTold a = a .number ∷ a .length ∷ []
+
+abbrev pub answer : Question → List ℕ
+answer (checksum block) = checksumOf block ∷ []
+answer (extract block n) = blockTold (extracted block n)
+answer (inject block n septet) = blockTold (injected block n septet)
+answer (validate s) = validationTold (validationOf s)
+answer (read s) = headerTold (recordOf s .header) ++ recordOf s .payload
+answer (carry r) = unwritable r ∷ []
+answer (encode r room) = encodedTold (encodingOf r room) ++ Encodings.outputAfter r (untouched room)
+answer (value payload) = signedTold (valueOf payload)
+answer (next s start room) = nextTold (nextOf s start room) ++ Nexts.outputAfter s start (untouched room)
+answer (normalize s room) = normalizedTold (normalizingOf s room) ++ Normals.outputAfter s (untouched room)
+answer (validation r) = Verdicts.number (r .verdict) ∷ validationTold (Verdicts.answerOf r)
+answer (encoded e) = Encodings.number e ∷ encodedTold (Encodings.answerOf e)
+answer (nextRecord r) = Nexts.number r ∷ nextTold (Nexts.answerOf r)
+answer (normalized r) = Normals.number r ∷ normalizedTold (Normals.answerOf r)

@@ -1,0 +1,57 @@
+-- The streams and records that the table asks of.
+use Prim.Native.Nat.{ℕ, zero, suc, _/_, _%_}
+use mathlib.Core.List.{List, [], _∷_, _++_}
+use lib.ListN.{take, replicate}
+use Rattle.record.specs.Record.{Record}
+
+-- the n bytes that a number's digits show
+abbrev pub bytes : ℕ → ℕ → List ℕ
+bytes zero digits = []
+bytes (suc n) digits = bytes n (digits / 256) ++ (digits % 256 ∷ [])
+
+abbrev pub recorded : ℕ → ℕ → ℕ → ℕ → List ℕ → Record
+recorded version destination source command payload =
+    record {
+      header = record { version = version; destination = destination; source = source; command = command };
+      payload = payload;
+    }
+
+-- P1, D1, T1 up to its checksum, and T2
+abbrev pub p1 : List ℕ
+p1 = bytes 16 0xAA114410_66100002_01210704_0F000065
+
+abbrev pub d1 : List ℕ
+d1 = bytes 16 0xAA200011_19200001_00000000_00000014
+
+abbrev pub t1 : ℕ → List ℕ
+t1 sum = bytes 7 0xAA102031_773001 ++ (sum ∷ [])
+
+abbrev pub t2 : List ℕ
+t2 = bytes 17 0xAA317710_20302354_38100D36_4623001A_71
+
+-- a packet of two frames and a telegram of three, with top bits, and a datagram with all of them
+abbrev pub twoFrames : List ℕ
+twoFrames = bytes 22 0xAA214E72_3B100312_023C6803_7401051A_007F7F12_036C
+
+abbrev pub sixTopBits : List ℕ
+sixTopBits = bytes 16 0xAA221144_33205605_01122334_45563F16
+
+abbrev pub threeFrames : List ℕ
+threeFrames = bytes 35 0xAA317710_2031690D_01020304_0506077F_64010203_04050607_00630809_0A0B0C0D_0E555D
+
+abbrev pub threeFramesPayload : List ℕ
+threeFramesPayload = bytes 21 0x81828384_85868701_02030405_06078809_8A0B8C0D_8E
+
+-- P1, noise, the first ten bytes of D1, and T2, inside the length that D1 announces
+abbrev pub damaged : List ℕ
+damaged = p1 ++ (0x00 ∷ 0xFF ∷ 0x7F ∷ (take 10 d1 ++ t2))
+
+-- records that differ from P1's, D1's and T2's in one field
+abbrev pub packet : ℕ → ℕ → ℕ → ℕ → Record
+packet destination source command n = recorded 0x10 destination source command (replicate n 0x80)
+
+abbrev pub datagram : ℕ → ℕ → Record
+datagram command n = recorded 0x20 0x0020 0x1911 command (replicate n 0)
+
+abbrev pub telegram : ℕ → ℕ → Record
+telegram command n = recorded 0x30 0x7731 0x2010 command (replicate n 0)

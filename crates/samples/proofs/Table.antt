@@ -1,0 +1,179 @@
+-- The definitions of specs/ hold of document 01's starred samples, and of more that pin their numbers: one statement over a table,
+-- by computation. Assumes nothing.
+use Prim.Native.Nat.{ℕ}
+use mathlib.Core.Path.{_≡_, refl}
+use mathlib.Core.List.{List, [], _∷_, _++_, map}
+use lib.ListN.{take, replicate}
+use Rattle.basics.specs.Choice.{choose}
+use Rattle.basics.specs.Words.{signed}
+use Rattle.checksum.specs.Checksum.{checksumFrom}
+use Rattle.septet.specs.Septet.{septetOf, lowBits, withTopBits}
+use Rattle.septet.specs.Block.{anyHigh}
+use Rattle.stream.specs.Layout.{kindOf, headerLength, frameWidth, frameCount, streamLength, payloadLength}
+use Rattle.stream.specs.Validation.{frameRule, headerRule, ruleAt, breach, faultAt, validationFrom}
+use Rattle.stream.specs.declared.Verdict.the-variants.{Whole, NoSync, HighByte, UnknownVersion, HeaderChecksum, UnusedSeptetBit, FrameChecksum, Ended}
+use Rattle.record.specs.Record.{recordOf, unframed, commandIn, payloadIn, framed, framesOf, kindBytes, streamAs, streamOf}
+use Rattle.record.specs.Encode.{unwritable}
+use Rattle.record.specs.Encode as Encodings
+use Rattle.record.specs.declared.Encoded.the-variants as Encoded
+use Rattle.recording.specs.Recording.{deliveriesFrom}
+use Rattle.recording.specs.Next as Nexts
+use Rattle.recording.specs.Normalize.{streams}
+use Rattle.recording.specs.Normalize as Normals
+use Rattle.recording.specs.declared.NextRecord.the-variants as NextRecord
+use Rattle.recording.specs.declared.Normalized.the-variants as Normalized
+use Rattle.samples.proofs.Questions.{Question, checksum, extract, inject, validate, read, carry, encode, value, next, normalize, validation, encoded, nextRecord, normalized, untouched, answer}
+use Rattle.samples.proofs.Samples.{bytes, recorded, p1, d1, t1, t2, twoFrames, sixTopBits, threeFrames, threeFramesPayload, damaged, packet, datagram, telegram}
+
+-- a question and the answer that the papers give
+abbrev Row : Type 0
+Row = Question × List ℕ
+
+-- a refused block; a refused writing; no next record, and any number with it
+abbrev noBlock : List ℕ
+noBlock = 7 ∷ replicate 9 0
+
+abbrev refused : ℕ → ℕ → List ℕ
+refused number room = number ∷ 0 ∷ untouched room
+
+abbrev noRecord : ℕ → ℕ → List ℕ
+noRecord number room = number ∷ (replicate 8 0 ++ untouched room)
+
+abbrev starred : List Row
+starred =
+    (validate p1, 0 ∷ 16 ∷ [])
+    ∷ (validate d1, 0 ∷ 16 ∷ [])
+    ∷ (validate (t1 0x76), 0 ∷ 8 ∷ [])
+    ∷ (validate (t1 0x77), 4 ∷ 7 ∷ [])
+    ∷ (validate t2, 0 ∷ 17 ∷ [])
+    ∷ (read t2, 0x30 ∷ 0x7731 ∷ 0x2010 ∷ 0x23 ∷ bytes 7 0x38900DB6_C62300)
+    ∷ (extract (bytes 7 0xE803F401_000000) 4, 0 ∷ 4 ∷ 0x05 ∷ bytes 7 0x68037401_000000)
+    ∷ (checksum (bytes 5 0x68037401_05), 0x1A ∷ [])
+    ∷ (validate [], 7 ∷ 0 ∷ [])
+    ∷ (next [] 0 2, noRecord 0 2)
+    ∷ (next [] 1 2, noRecord 6 2)
+    ∷ (validate (bytes 16 0xAA114410_66100002_01210704_0F001055), 5 ∷ 14 ∷ [])
+    ∷ (validate (0xAA ∷ p1), 2 ∷ 1 ∷ [])
+    ∷ (next (0xAA ∷ p1) 0 5, 0 ∷ 1 ∷ 1 ∷ 16 ∷ 0x10 ∷ 0x4411 ∷ 0x6610 ∷ 0x0200 ∷ 4 ∷ bytes 5 0x07040F00_EE)
+    ∷ (encode (packet 0x0080 0x6610 0x0200 4) 16, refused 2 16)
+    ∷ []
+
+abbrev blocks : List Row
+blocks =
+    (checksum [], 0x7F ∷ [])
+    ∷ (checksum (0x80 ∷ []), 0x7F ∷ [])
+    ∷ (checksum (0xFF ∷ 0xFF ∷ []), 0x01 ∷ [])
+    ∷ (extract (replicate 7 0xFF) 7, 0 ∷ 7 ∷ 0x7F ∷ replicate 7 0x7F)
+    ∷ (extract (bytes 7 0x38900DB6_C623FF) 6, 0 ∷ 6 ∷ 0x1A ∷ bytes 7 0x38100D36_462300)
+    ∷ (extract (replicate 7 0xFF) 8, noBlock)
+    ∷ (inject (replicate 7 0x7F) 7 0x7F, 0 ∷ 7 ∷ 0 ∷ replicate 7 0xFF)
+    ∷ (inject (bytes 7 0x68037401_FFFFFF) 4 0x05, 0 ∷ 4 ∷ 0 ∷ bytes 7 0xE803F401_000000)
+    ∷ (inject (replicate 7 0) 8 0, noBlock)
+    ∷ (inject (bytes 7 0x68037480_000000) 4 0x05, noBlock)
+    ∷ (inject (replicate 7 0) 7 0x80, noBlock)
+    ∷ (inject (replicate 7 0) 4 0x10, noBlock)
+    ∷ []
+
+abbrev verdicts : List Row
+verdicts =
+    (validate (twoFrames ++ (0xFF ∷ [])), 0 ∷ 22 ∷ [])
+    ∷ (validate sixTopBits, 0 ∷ 16 ∷ [])
+    ∷ (validate threeFrames, 0 ∷ 35 ∷ [])
+    ∷ (validate (bytes 8 0xAA102031_77301463), 0 ∷ 8 ∷ [])
+    ∷ (validate (0xAB ∷ []), 1 ∷ 0 ∷ [])
+    ∷ (validate (0xAA ∷ 0x7F ∷ 0x80 ∷ []), 2 ∷ 2 ∷ [])
+    ∷ (validate (bytes 6 0xAA102031_7790), 2 ∷ 5 ∷ [])
+    ∷ (validate (bytes 13 0xAA114410_66100002_01210704_80), 2 ∷ 12 ∷ [])
+    ∷ (validate (bytes 8 0xAA102031_77110176), 3 ∷ 5 ∷ [])
+    ∷ (validate (bytes 10 0xAA114410_66100002_0122), 4 ∷ 9 ∷ [])
+    ∷ (validate (bytes 16 0xAA200011_19200001_00000000_00000015), 4 ∷ 15 ∷ [])
+    ∷ (validate (bytes 16 0xAA200011_19200001_00000000_00004054), 5 ∷ 14 ∷ [])
+    ∷ (validate (take 20 twoFrames ++ (0x13 ∷ [])), 5 ∷ 20 ∷ [])
+    ∷ (validate (take 21 twoFrames ++ (0x6D ∷ [])), 6 ∷ 21 ∷ [])
+    ∷ (validate (take 34 threeFrames ++ (0x5E ∷ [])), 6 ∷ 34 ∷ [])
+    ∷ (validate (take 5 p1), 7 ∷ 5 ∷ [])
+    ∷ (validate (take 6 p1), 7 ∷ 6 ∷ [])
+    ∷ (validate (take 15 p1), 7 ∷ 15 ∷ [])
+    ∷ (validate (take 15 d1), 7 ∷ 15 ∷ [])
+    ∷ (validate (take 16 t2), 7 ∷ 16 ∷ [])
+    ∷ []
+
+abbrev records : List Row
+records =
+    (read twoFrames, 0x10 ∷ 0x4E21 ∷ 0x3B72 ∷ 0x1203 ∷ bytes 8 0xE803F401_80FF7F12)
+    ∷ (read sixTopBits, 0x20 ∷ 0x1122 ∷ 0x3344 ∷ 0x0556 ∷ bytes 6 0x8192A3B4_C5D6)
+    ∷ (read threeFrames, 0x31 ∷ 0x7731 ∷ 0x2010 ∷ 0x69 ∷ threeFramesPayload)
+    ∷ (encode (recorded 0x10 0x4E21 0x3B72 0x1203 (bytes 8 0xE803F401_80FF7F12)) 23, 0 ∷ 22 ∷ (twoFrames ++ (0xEE ∷ [])))
+    ∷ (encode (recorded 0x20 0x1122 0x3344 0x0556 (bytes 6 0x8192A3B4_C5D6)) 16, 0 ∷ 16 ∷ sixTopBits)
+    ∷ (encode (recorded 0x31 0x7731 0x2010 0x69 threeFramesPayload) 35, 0 ∷ 35 ∷ threeFrames)
+    ∷ (carry (telegram 0x7F 21), 0 ∷ [])
+    ∷ (carry (telegram 0x60 21), 0 ∷ [])
+    ∷ (carry (packet 0x7F7F 0x7F7F 0x7F7F 508), 0 ∷ [])
+    ∷ (carry (recorded 0x11 0x0080 0x6610 0x0080 []), 1 ∷ [])
+    ∷ (carry (packet 0x8000 0x6610 0x0080 3), 2 ∷ [])
+    ∷ (carry (packet 0x4411 0x0080 0x0200 4), 2 ∷ [])
+    ∷ (carry (packet 0x4411 0x8000 0x0200 4), 2 ∷ [])
+    ∷ (carry (packet 0x4411 0x6610 0x0080 3), 3 ∷ [])
+    ∷ (carry (packet 0x4411 0x6610 0x8000 4), 3 ∷ [])
+    ∷ (carry (datagram 0x0080 6), 3 ∷ [])
+    ∷ (carry (telegram 0x80 0), 3 ∷ [])
+    ∷ (carry (packet 0x4411 0x6610 0x0200 3), 4 ∷ [])
+    ∷ (carry (packet 0x4411 0x6610 0x0200 512), 4 ∷ [])
+    ∷ (carry (datagram 0x0100 5), 4 ∷ [])
+    ∷ (carry (telegram 0x23 0), 4 ∷ [])
+    ∷ (encode (recorded 0x11 0x4411 0x6610 0x0200 []) 2, refused 1 2)
+    ∷ (encode (packet 0x4411 0x6610 0x0080 4) 2, refused 3 2)
+    ∷ (encode (packet 0x4411 0x6610 0x0200 3) 2, refused 4 2)
+    ∷ (encode (packet 0x4411 0x6610 0x0200 4) 15, refused 5 15)
+    ∷ (value (bytes 6 0x3412FFFF_FFFF), 1 ∷ 1 ∷ [])
+    ∷ (value (bytes 6 0x34120000_0080), 1 ∷ 2147483648 ∷ [])
+    ∷ (value (bytes 6 0x3412FFFF_FF7F), 0 ∷ 2147483647 ∷ [])
+    ∷ (value (bytes 6 0x34120102_0304), 0 ∷ 0x04030201 ∷ [])
+    ∷ []
+
+abbrev recordings : List Row
+recordings =
+    (next damaged 1 7, 0 ∷ 1 ∷ 29 ∷ 17 ∷ 0x30 ∷ 0x7731 ∷ 0x2010 ∷ 0x23 ∷ 7 ∷ bytes 7 0x38900DB6_C62300)
+    ∷ (next damaged 30 2, noRecord 0 2)
+    ∷ (next damaged 46 0, noRecord 0 0)
+    ∷ (next damaged 47 0, noRecord 6 0)
+    ∷ (next damaged 0 3, noRecord 5 3)
+    ∷ (normalize damaged 34, 0 ∷ 33 ∷ (p1 ++ (t2 ++ (0xEE ∷ []))))
+    ∷ (normalize damaged 32, refused 5 32)
+    ∷ (normalize [] 2, 0 ∷ 0 ∷ untouched 2)
+    ∷ []
+
+-- each case of each enum
+abbrev cases : List Row
+cases =
+    (validation (record { verdict = Whole; offset = 9 }), 0 ∷ 0 ∷ 9 ∷ [])
+    ∷ (validation (record { verdict = NoSync; offset = 9 }), 1 ∷ 1 ∷ 9 ∷ [])
+    ∷ (validation (record { verdict = HighByte; offset = 9 }), 2 ∷ 2 ∷ 9 ∷ [])
+    ∷ (validation (record { verdict = UnknownVersion; offset = 9 }), 3 ∷ 3 ∷ 9 ∷ [])
+    ∷ (validation (record { verdict = HeaderChecksum; offset = 9 }), 4 ∷ 4 ∷ 9 ∷ [])
+    ∷ (validation (record { verdict = UnusedSeptetBit; offset = 9 }), 5 ∷ 5 ∷ 9 ∷ [])
+    ∷ (validation (record { verdict = FrameChecksum; offset = 9 }), 6 ∷ 6 ∷ 9 ∷ [])
+    ∷ (validation (record { verdict = Ended; offset = 9 }), 7 ∷ 7 ∷ 9 ∷ [])
+    ∷ (encoded (Encoded.Written 9), 0 ∷ 0 ∷ 9 ∷ [])
+    ∷ (encoded Encoded.UnknownVersion, 1 ∷ 1 ∷ 0 ∷ [])
+    ∷ (encoded Encoded.HighAddress, 2 ∷ 2 ∷ 0 ∷ [])
+    ∷ (encoded Encoded.HighCommand, 3 ∷ 3 ∷ 0 ∷ [])
+    ∷ (encoded Encoded.WrongLength, 4 ∷ 4 ∷ 0 ∷ [])
+    ∷ (encoded Encoded.OutputTooShort, 5 ∷ 5 ∷ 0 ∷ [])
+    ∷ (
+      nextRecord (NextRecord.Found (record { place = 1; length = 2; header = recorded 3 4 5 6 [] .header; «payload_length» = 7 })),
+      0 ∷ 0 ∷ 1 ∷ 1 ∷ 2 ∷ 3 ∷ 4 ∷ 5 ∷ 6 ∷ 7 ∷ [],
+    )
+    ∷ (nextRecord NextRecord.Nothing, 0 ∷ noRecord 0 0)
+    ∷ (nextRecord NextRecord.StartPastEnd, 6 ∷ noRecord 6 0)
+    ∷ (nextRecord NextRecord.OutputTooShort, 5 ∷ noRecord 5 0)
+    ∷ (normalized (Normalized.Written 9), 0 ∷ 0 ∷ 9 ∷ [])
+    ∷ (normalized Normalized.OutputTooShort, 5 ∷ 5 ∷ 0 ∷ [])
+    ∷ []
+
+abbrev table : List Row
+table = starred ++ (blocks ++ (verdicts ++ (records ++ (recordings ++ cases))))
+
+samples : map (λ (row : Row). answer (row .0)) table ≡ map (λ (row : Row). row .1) table
+unfolding choose signed checksumFrom septetOf lowBits withTopBits anyHigh kindOf headerLength frameWidth frameCount streamLength payloadLength frameRule headerRule ruleAt breach faultAt validationFrom recordOf unframed commandIn payloadIn framed framesOf kindBytes streamAs streamOf unwritable Encodings.refusal deliveriesFrom Nexts.refusal streams Normals.refusal
+samples = refl
