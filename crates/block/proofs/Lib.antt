@@ -1,0 +1,6 @@
+pub mod Tables
+pub mod Sections
+pub mod Counting
+pub mod Finding
+pub mod Elements
+pub mod Laws

@@ -1,0 +1,144 @@
+// The sections and elements in the payload of a block packet.
+ghost use mathlib.Core.Path.{_≡_};
+ghost use Rattle.block.specs.Answer.{sectionCount, sectionFound, sectionShown, elementCount, elementFound, elementShown};
+ghost use Rattle.block.specs.Element.{temperatureOf};
+ghost use Rattle.block.specs.Part.{PartOf};
+
+mod chain;
+mod size;
+
+use record::Header;
+
+// How many there are, or a refusal's number and zero.
+pub struct Count {
+    pub number: u32,
+    pub count: usize,
+}
+
+// Where a part stands in the payload, or a refusal's number and zeros.
+pub struct Part {
+    pub number: u32,
+    pub start: usize,
+    pub length: usize,
+}
+
+// How many sections a payload has.
+pub fn section_count(header: Header, payload: &[u8]) -> Count
+    ensures { λ r. ⌜ r ≡ sectionCount header (now (payload .entry)) ⌝ }
+{
+    if chain::not_block(header, payload.len()) {
+        return Count {
+            number: 8,
+            count: 0,
+        };
+    }
+    chain::header_step(payload)
+}
+
+// Where section k stands, with its header and payload.
+pub fn find_section(header: Header, payload: &[u8], k: usize) -> Part
+    ensures { λ r. ⌜ r ≡ sectionFound header (now (payload .entry)) k ⌝ }
+{
+    let sections = section_count(header, payload);
+    if sections.number != 0 {
+        return refused(sections.number);
+    }
+    if sections.count <= k {
+        return refused(10);
+    }
+    let rest = chain::from_section(payload, k);
+    Part {
+        number: 0,
+        start: payload.len() - rest.len(),
+        length: 4 + 4 * (rest[0] as usize),
+    }
+}
+
+// Section k, header and payload, as a part of the payload; empty exactly if it is refused.
+pub fn section<'a>(header: Header, payload: &'a [u8], k: usize) -> &'a [u8]
+    ensures { λ r. ⌜ PartOf (payload .entry) (sectionFound header (now (payload .entry)) k .start) (sectionShown header (now (payload .entry)) k) r ⌝ }
+{
+    let part = find_section(header, payload, k);
+    let start = part.start;
+    let end = start + part.length;
+    &payload[start..end]
+}
+
+// How many elements section k has.
+pub fn element_count(header: Header, payload: &[u8], k: usize) -> Count
+    ensures { λ r. ⌜ r ≡ elementCount header (now (payload .entry)) k ⌝ }
+{
+    let part = find_section(header, payload, k);
+    if part.number != 0 {
+        return Count {
+            number: part.number,
+            count: 0,
+        };
+    }
+    let start = part.start;
+    let section = &payload[start..];
+    let size = size::element_size(section[1]);
+    if size == 0 {
+        return Count {
+            number: 11,
+            count: 0,
+        };
+    }
+    Count {
+        number: 0,
+        count: 4 * (section[0] as usize) / size,
+    }
+}
+
+// Where element i of section k stands.
+pub fn find_element(header: Header, payload: &[u8], k: usize, i: usize) -> Part
+    ensures { λ r. ⌜ r ≡ elementFound header (now (payload .entry)) k i ⌝ }
+{
+    let elements = element_count(header, payload, k);
+    if elements.number != 0 {
+        return refused(elements.number);
+    }
+    if elements.count <= i {
+        return refused(10);
+    }
+    let start = find_section(header, payload, k).start;
+    let section = &payload[start..];
+    let size = size::element_size(section[1]);
+    Part {
+        number: 0,
+        start: start + (4 + i * size),
+        length: size,
+    }
+}
+
+// The bytes of element i of section k, as a part of the payload; empty exactly if it is refused.
+pub fn element<'a>(header: Header, payload: &'a [u8], k: usize, i: usize) -> &'a [u8]
+    ensures { λ r. ⌜ PartOf (payload .entry) (elementFound header (now (payload .entry)) k i .start) (elementShown header (now (payload .entry)) k i) r ⌝ }
+{
+    let found = find_element(header, payload, k, i);
+    let start = found.start;
+    let end = start + found.length;
+    &payload[start..end]
+}
+
+fn refused(number: u32) -> Part
+    ensures { λ r. ⌜ r ≡ record { number = number; start = 0; length = 0 } ⌝ }
+{
+    Part {
+        number,
+        start: 0,
+        length: 0,
+    }
+}
+
+// A temperature: an element's two bytes as a signed number.
+pub fn temperature(bytes: [u8; 2]) -> i16
+    ensures { λ r. ⌜ r ≡ temperatureOf bytes ⌝ }
+{
+    let word = (bytes[0] as u16) + 256 * (bytes[1] as u16);
+    if word < 0x8000 {
+        word as i16
+    } else {
+        -1 - ((0xffff - word) as i16)
+    }
+}
