@@ -17,11 +17,11 @@ def checksum(block):
     return total
 
 
-def take_out(block):
+def extracted(block):
     return [b & 0x7F for b in block], sum(1 << i for i, b in enumerate(block) if b & 0x80)
 
 
-def put_back(block, septet):
+def injected(block, septet):
     return [b | (0x80 if septet >> i & 1 else 0) for i, b in enumerate(block)]
 
 
@@ -33,7 +33,7 @@ def frame_count(s):
     return s[8] if s[5] == 0x10 else 0 if s[5] == 0x20 else s[6] >> 5 & 3
 
 
-def judge(s):
+def validate(s):
     """the verdict's number and the offset"""
     end = None
     for k, byte in enumerate(s):
@@ -71,10 +71,10 @@ def read(s):
     word = lambda k: s[k] | s[k + 1] << 8
     version, head, width = s[5], HEADER[s[5]], WIDTH[s[5]]
     if version == 0x20:
-        payload = put_back(s[8:14], s[14])
+        payload = injected(s[8:14], s[14])
     else:
         starts = [head + (width + 2) * j for j in range(frame_count(s))]
-        payload = [b for a in starts for b in put_back(s[a : a + width], s[a + width])]
+        payload = [b for a in starts for b in injected(s[a : a + width], s[a + width])]
     return version, word(1), word(3), s[6] if version in (0x30, 0x31) else word(6), payload
 
 
@@ -102,23 +102,65 @@ def stream(record):
     out = word(destination) + word(source) + [version]
     frames = []
     if version == 0x20:
-        low, septet = take_out(payload)
+        low, septet = extracted(payload)
         out += word(command) + low + [septet]
     else:
         width = WIDTH[version]
         for a in range(0, len(payload), width):
-            low, septet = take_out(payload[a : a + width])
+            low, septet = extracted(payload[a : a + width])
             frames += low + [septet, checksum(low + [septet])]
         out += [command] if version in (0x30, 0x31) else word(command) + [len(payload) // 4]
     return [0xAA] + out + [checksum(out)] + frames
 
 
 def places(s, start=0):
-    return [k for k in range(start, len(s) + 1) if judge(s[k:])[0] == 0]
+    return [k for k in range(start, len(s) + 1) if validate(s[k:])[0] == 0]
 
 
-def washed(s):
+def normalized(s):
     return [b for k in places(s) for b in stream(read(s[k:]))]
+
+
+SIZE = {0x01: 2, 0x05: 4, 0x08: 1, 0x0A: 8, 0x0B: 4, 0x0C: 4, 0x0D: 4}
+
+
+def cut(payload):
+    """the start of each section, and whether one runs past the end"""
+    starts, at = [], 0
+    while at < len(payload):
+        starts.append(at)
+        at += 4 + 4 * payload[at]
+    return starts, at != len(payload)
+
+
+def section(header, payload, k):
+    """the refusal or 0, and where section k stands"""
+    version, destination, command = header
+    if (version, destination, command) != (0x10, 0x0015, 0x0100) or len(payload) % 4 or len(payload) > 508:
+        return 8, 0, 0
+    starts, past = cut(payload)
+    if past:
+        return 9, 0, 0
+    if k >= len(starts):
+        return 10, 0, 0
+    return 0, starts[k], 4 + 4 * payload[starts[k]]
+
+
+def element_count(header, payload, k):
+    number, start, length = section(header, payload, k)
+    if number:
+        return number, 0
+    size = SIZE.get(payload[start + 1])
+    return (0, (length - 4) // size) if size else (11, 0)
+
+
+def element(header, payload, k, i):
+    number, count = element_count(header, payload, k)
+    if number or i >= count:
+        return number or 10, 0, 0
+    start = section(header, payload, k)[1]
+    size = SIZE[payload[start + 1]]
+    return 0, start + 4 + i * size, size
 
 
 # ── lines
@@ -147,7 +189,7 @@ def extract(name, text, used):
     s = list(bytes.fromhex(text))
     if used > 7:
         return block(name, 7, [0] * 7, 0, 0)
-    low, septet = take_out(s[:used])
+    low, septet = extracted(s[:used])
     block(name, 0, low + [0] * (7 - used), used, septet)
 
 
@@ -155,13 +197,13 @@ def inject(name, text, used, septet):
     s = list(bytes.fromhex(text))
     if used > 7 or any(b >= 0x80 for b in s[:used]) or septet >= 0x80 or septet >> used:
         return block(name, 7, [0] * 7, 0, 0)
-    block(name, 0, put_back(s[:used], septet) + [0] * (7 - used), used, 0)
+    block(name, 0, injected(s[:used], septet) + [0] * (7 - used), used, 0)
 
 
 def one(name, text, verdict, offset, payload=None):
     """a stream, with the verdict and the offset that a paper gives or that were worked out by hand"""
     s = list(bytes.fromhex(text))
-    assert judge(s) == (verdict, offset), (name, judge(s))
+    assert validate(s) == (verdict, offset), (name, validate(s))
     if verdict:
         return line(name, "V%d" % verdict, offset)
     record = read(s)
@@ -195,16 +237,37 @@ def next_(name, text, start, room, place=None):
     record = read(s[found[0] :])
     if room < len(record[4]):
         return line(name, 5, "kept")
-    line(name, 0, found[0], judge(s[found[0] :])[1], *told(record), "kept")
+    line(name, 0, found[0], validate(s[found[0] :])[1], *told(record), "kept")
 
 
 def normalize(name, text, room, number, same_as=None):
-    out = washed(list(bytes.fromhex(text)))
+    out = normalized(list(bytes.fromhex(text)))
     assert (5 if room < len(out) else 0) == number, (name, len(out))
     assert same_as is None or hexed(out) == same_as.replace(" ", ""), name
     if number:
         return line(name, number, 0, "kept")
     line(name, 0, len(out), hexed(out), "kept")
+
+
+BLOCK = (0x10, 0x0015, 0x0100)
+
+
+def sections(name, text, count=None, number=0, header=BLOCK):
+    payload = list(bytes.fromhex(text))
+    said = section(header, payload, 0)[0]
+    said, found = (0, len(cut(payload)[0])) if said in (0, 10) else (said, 0)
+    assert (said, found) == (number, count or 0), (name, said, found)
+    line(name, said, found)
+
+
+def elements(name, text, k, count, number=0):
+    assert element_count(BLOCK, list(bytes.fromhex(text)), k) == (number, count), name
+    line(name, number, count)
+
+
+def place(name, text, found):
+    number, start, length = found
+    line(name, number, start, length, hexed(bytes.fromhex(text)[start : start + length]))
 
 
 # ── the samples
@@ -229,7 +292,7 @@ assert checksum([]) == 0x7F and checksum([0x68, 0x03, 0x74, 0x01, 0x05]) == 0x1A
 line("checksum-none", "7F")
 line("checksum-frame", "1A")
 line("checksum-P1-header", "21")
-assert take_out([0xE8, 0x03, 0xF4, 0x01]) == ([0x68, 0x03, 0x74, 0x01], 0x05)
+assert extracted([0xE8, 0x03, 0xF4, 0x01]) == ([0x68, 0x03, 0x74, 0x01], 0x05)
 extract("extract-four", "E8 03 F4 01 00 00 00", 4)
 extract("extract-beyond", "E8 03 F4 01 FF FF FF", 4)
 extract("extract-seven", "38 90 0D B6 C6 23 00", 7)
@@ -333,6 +396,39 @@ normalize("normalize-damaged", damaged, 800, 0, P1 + T2)
 normalize("normalize-room-33", damaged, 33, 0, P1 + T2)
 normalize("normalize-P1-D1-T2", P1 + D1 + T2, 49, 0, P1 + D1 + T2)
 normalize("normalize-P1-cut", P1[:-3], 800, 0, "")
+
+E48 = (  # document 000's block packet
+    "02 0A 00 00 03 00 08 00 00 00 00 00 01 0B 00 00 00 00 00 00 04 08 00 00"
+    + "00" * 16
+    + "01 0C 00 00 00 00 00 00"
+)
+assert len(bytes.fromhex(E48)) == 48
+sections("sections-48", E48, 4)
+for k, count in enumerate((1, 1, 16, 1)):
+    elements("elements-48-%d" % k, E48, k, count)
+    place("section-48-%d" % k, E48, section(BLOCK, list(bytes.fromhex(E48)), k))
+elements("elements-48-4", E48, 4, 0, 10)
+place("section-48-4", E48, section(BLOCK, list(bytes.fromhex(E48)), 4))
+for k, i in ((0, 0), (0, 1), (2, 15), (2, 16), (4, 0)):
+    place("element-48-%d-%d" % (k, i), E48, element(BLOCK, list(bytes.fromhex(E48)), k, i))
+sections("sections-eight-02", "02 0B 00 00 00 00 00 00", 0, 9)
+sections("sections-eight-01", "01 0B 00 00 00 00 00 00", 1)
+sections("sections-last-past", "00 0B 00 00 01 0B 00 00", 0, 9)
+sections("sections-empty", "", 0)
+sections("sections-3", "00 0B 00", 0, 8)
+sections("sections-508", "00" * 508, 127)
+sections("sections-512", "00" * 512, 0, 8)
+sections("sections-version-20", "00" * 4, 0, 8, (0x20, 0x0015, 0x0100))
+sections("sections-destination-10", "00" * 4, 0, 8, (0x10, 0x0010, 0x0100))
+sections("sections-command-0200", "00" * 4, 0, 8, (0x10, 0x0015, 0x0200))
+TYPES = "03 01 00 00" + "01 02 03 04 05 06 07 08 09 0A 0B 0C" + "02 05 00 00 D1 D2 D3 D4 E1 E2 E3 E4" + "03 0A 00 00" + "0F" * 12 + "01 02 00 00 00 00 00 00"
+for k, (count, number) in enumerate(((6, 0), (2, 0), (1, 0), (0, 11))):
+    elements("elements-types-%d" % k, TYPES, k, count, number)
+for k, i in ((0, 5), (1, 1), (2, 0), (2, 1), (3, 0)):
+    place("element-types-%d-%d" % (k, i), TYPES, element(BLOCK, list(bytes.fromhex(TYPES)), k, i))
+line("temperature-F6FF", -10)
+line("temperature-0080", -32768)
+line("temperature-FF7F", 32767)
 
 if len(sys.argv) > 1:  # each example's bytes, as document 000 prints them from offset 0 on
     tables, run = [], []

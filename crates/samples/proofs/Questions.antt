@@ -21,6 +21,10 @@ use Rattle.recording.specs.Next as Nexts
 use Rattle.recording.specs.Normalize.{normalizingOf}
 use Rattle.recording.specs.Normalize as Normals
 use Rattle.recording.specs.declared.NextRecord.{NextRecord}
+use Rattle.block.specs.Answer.{sectionCount, sectionFound, sectionShown, elementCount, elementFound, elementShown}
+use Rattle.block.specs.Element.{temperatureOf}
+use Rattle.block.specs.declared.Count.{Count}
+use Rattle.block.specs.declared.Part.{Part}
 use Rattle.recording.specs.declared.Normalized.{Normalized}
 
 -- an output is given by its room
@@ -35,6 +39,11 @@ pub data Question : Type 0 where
   value : List ℕ → Question
   next : List ℕ → ℕ → ℕ → Question
   normalize : List ℕ → ℕ → Question
+  sections : Header → List ℕ → Question
+  section : Header → List ℕ → ℕ → Question
+  elements : Header → List ℕ → ℕ → Question
+  element : Header → List ℕ → ℕ → ℕ → Question
+  temperature : List ℕ → Question
   validation : Validation → Question
   encoded : Encoded → Question
   nextRecord : NextRecord → Question
@@ -71,6 +80,12 @@ nextTold a = a .number ∷ boolTold (a .found) ∷ a .place ∷ a .length ∷ (h
 abbrev normalizedTold : Normals.Answer → List ℕ
 normalizedTold a = a .number ∷ a .length ∷ []
 
+abbrev countTold : Count → List ℕ
+countTold c = c .number ∷ c .count ∷ []
+
+abbrev partTold : Part → List ℕ
+partTold p = p .number ∷ p .start ∷ p .length ∷ []
+
 abbrev pub answer : Question → List ℕ
 answer (checksum block) = checksumOf block ∷ []
 answer (extract block n) = blockTold (extracted block n)
@@ -82,6 +97,11 @@ answer (encode r room) = encodedTold (encodingOf r room) ++ Encodings.outputAfte
 answer (value payload) = signedTold (valueOf payload)
 answer (next s start room) = nextTold (nextOf s start room) ++ Nexts.outputAfter s start (untouched room)
 answer (normalize s room) = normalizedTold (normalizingOf s room) ++ Normals.outputAfter s (untouched room)
+answer (sections h payload) = countTold (sectionCount h payload)
+answer (section h payload k) = partTold (sectionFound h payload k) ++ sectionShown h payload k
+answer (elements h payload k) = countTold (elementCount h payload k)
+answer (element h payload k i) = partTold (elementFound h payload k i) ++ elementShown h payload k i
+answer (temperature bytes) = signedTold (temperatureOf bytes)
 answer (validation r) = Verdicts.number (r .verdict) ∷ validationTold (Verdicts.answerOf r)
 answer (encoded e) = Encodings.number e ∷ encodedTold (Encodings.answerOf e)
 answer (nextRecord r) = Nexts.number r ∷ nextTold (Nexts.answerOf r)

@@ -3,6 +3,7 @@ use Prim.Native.Nat.{ℕ, zero, suc, _/_, _%_}
 use mathlib.Core.List.{List, [], _∷_, _++_}
 use lib.ListN.{take, replicate}
 use Rattle.record.specs.Record.{Record}
+use Rattle.record.specs.declared.Header.{Header}
 
 -- the n bytes that a number's digits show
 abbrev pub bytes : ℕ → ℕ → List ℕ
@@ -55,3 +56,16 @@ datagram command n = recorded 0x20 0x0020 0x1911 command (replicate n 0)
 
 abbrev pub telegram : ℕ → ℕ → Record
 telegram command n = recorded 0x30 0x7731 0x2010 command (replicate n 0)
+
+-- a block packet's header, and document 000's example payload
+abbrev pub blockHeader : Header
+blockHeader = record { version = 0x10; destination = 0x0015; source = 0x7E11; command = 0x0100 }
+
+abbrev pub example : List ℕ
+example = bytes 24 0x020A0000_03000800_00000000_010B0000_00000000_04080000 ++ (replicate 16 0 ++ bytes 8 0x010C0000_00000000)
+
+-- a section of each type in the table, one frame each but two of the smart display; and a type that isn't in it
+abbrev pub eachType : List ℕ
+eachType =
+    bytes 24 0x01010000_A1A2A3A4_01050000_B1B2B3B4_01080000_C1C2C3C4
+    ++ (bytes 20 0x020A0000_D1D2D3D4_D5D6D7D8_010B0000_E1E2E3E4 ++ bytes 24 0x010C0000_F1F2F3F4_010D0000_91929394_01020000_00000000)

@@ -2,7 +2,7 @@
 -- by computation. Assumes nothing.
 use Prim.Native.Nat.{ℕ}
 use mathlib.Core.Path.{_≡_, refl}
-use mathlib.Core.List.{List, [], _∷_, _++_, map}
+use mathlib.Core.List.{List, [], _∷_, _++_, map, flatten}
 use lib.ListN.{take, replicate}
 use Rattle.basics.specs.Choice.{choose}
 use Rattle.basics.specs.Words.{signed}
@@ -22,8 +22,11 @@ use Rattle.recording.specs.Normalize.{streams}
 use Rattle.recording.specs.Normalize as Normals
 use Rattle.recording.specs.declared.NextRecord.the-variants as NextRecord
 use Rattle.recording.specs.declared.Normalized.the-variants as Normalized
-use Rattle.samples.proofs.Questions.{Question, checksum, extract, inject, validate, read, carry, encode, value, next, normalize, validation, encoded, nextRecord, normalized, untouched, answer}
-use Rattle.samples.proofs.Samples.{bytes, recorded, p1, d1, t1, t2, twoFrames, sixTopBits, threeFrames, threeFramesPayload, damaged, packet, datagram, telegram}
+use Rattle.block.specs.Section.{cut, someShort}
+use Rattle.block.specs.Element.{elementSize}
+use Rattle.block.specs.Answer.{notBlock}
+use Rattle.samples.proofs.Questions.{Question, checksum, extract, inject, validate, read, carry, encode, value, next, normalize, sections, section, elements, element, temperature, validation, encoded, nextRecord, normalized, untouched, answer}
+use Rattle.samples.proofs.Samples.{bytes, recorded, p1, d1, t1, t2, twoFrames, sixTopBits, threeFrames, threeFramesPayload, damaged, packet, datagram, telegram, blockHeader, example, eachType}
 
 -- a question and the answer that the papers give
 abbrev Row : Type 0
@@ -143,6 +146,40 @@ recordings =
     ∷ (normalize [] 2, 0 ∷ 0 ∷ untouched 2)
     ∷ []
 
+abbrev blockSections : List Row
+blockSections =
+    (sections blockHeader example, 0 ∷ 4 ∷ [])
+    ∷ (elements blockHeader example 0, 0 ∷ 1 ∷ [])
+    ∷ (elements blockHeader example 1, 0 ∷ 1 ∷ [])
+    ∷ (elements blockHeader example 2, 0 ∷ 16 ∷ [])
+    ∷ (elements blockHeader example 3, 0 ∷ 1 ∷ [])
+    ∷ (section blockHeader example 1, 0 ∷ 12 ∷ 8 ∷ bytes 8 0x010B0000_00000000)
+    ∷ (section blockHeader example 4, 10 ∷ 0 ∷ 0 ∷ [])
+    ∷ (sections blockHeader (bytes 8 0x020B0000_00000000), 9 ∷ 0 ∷ [])
+    ∷ (sections blockHeader (bytes 8 0x010B0000_00000000), 0 ∷ 1 ∷ [])
+    ∷ (sections blockHeader (bytes 8 0x000B0000_010B0000), 9 ∷ 0 ∷ [])
+    ∷ (sections blockHeader [], 0 ∷ 0 ∷ [])
+    ∷ (sections blockHeader (bytes 3 0x000B00), 8 ∷ 0 ∷ [])
+    ∷ (sections blockHeader (replicate 508 0), 0 ∷ 127 ∷ [])
+    ∷ (sections blockHeader (replicate 512 0), 8 ∷ 0 ∷ [])
+    ∷ (sections (record { version = 0x20; destination = 0x0015; source = 0; command = 0x0100 }) [], 8 ∷ 0 ∷ [])
+    ∷ (sections (record { version = 0x10; destination = 0x0016; source = 0; command = 0x0100 }) [], 8 ∷ 0 ∷ [])
+    ∷ (sections (record { version = 0x10; destination = 0x0015; source = 0; command = 0x0101 }) [], 8 ∷ 0 ∷ [])
+    ∷ (element blockHeader eachType 0 1, 0 ∷ 6 ∷ 2 ∷ 0xA3 ∷ 0xA4 ∷ [])
+    ∷ (element blockHeader eachType 1 0, 0 ∷ 12 ∷ 4 ∷ bytes 4 0xB1B2B3B4)
+    ∷ (element blockHeader eachType 2 3, 0 ∷ 23 ∷ 1 ∷ 0xC4 ∷ [])
+    ∷ (element blockHeader eachType 3 0, 0 ∷ 28 ∷ 8 ∷ bytes 8 0xD1D2D3D4_D5D6D7D8)
+    ∷ (element blockHeader eachType 4 0, 0 ∷ 40 ∷ 4 ∷ bytes 4 0xE1E2E3E4)
+    ∷ (element blockHeader eachType 5 0, 0 ∷ 48 ∷ 4 ∷ bytes 4 0xF1F2F3F4)
+    ∷ (element blockHeader eachType 6 0, 0 ∷ 56 ∷ 4 ∷ bytes 4 0x91929394)
+    ∷ (element blockHeader eachType 6 1, 10 ∷ 0 ∷ 0 ∷ [])
+    ∷ (elements blockHeader eachType 7, 11 ∷ 0 ∷ [])
+    ∷ (element blockHeader eachType 7 9, 11 ∷ 0 ∷ 0 ∷ [])
+    ∷ (temperature (0xF6 ∷ 0xFF ∷ []), 1 ∷ 10 ∷ [])
+    ∷ (temperature (0x00 ∷ 0x80 ∷ []), 1 ∷ 32768 ∷ [])
+    ∷ (temperature (0xFF ∷ 0x7F ∷ []), 0 ∷ 32767 ∷ [])
+    ∷ []
+
 -- each case of each enum
 abbrev cases : List Row
 cases =
@@ -172,8 +209,8 @@ cases =
     ∷ []
 
 abbrev table : List Row
-table = starred ++ (blocks ++ (verdicts ++ (records ++ (recordings ++ cases))))
+table = starred ++ (blocks ++ (verdicts ++ (records ++ (recordings ++ (blockSections ++ cases)))))
 
 samples : map (λ (row : Row). answer (row .0)) table ≡ map (λ (row : Row). row .1) table
-unfolding choose signed checksumFrom septetOf lowBits withTopBits anyHigh kindOf headerLength frameWidth frameCount streamLength payloadLength frameRule headerRule ruleAt breach faultAt validationFrom recordOf unframed commandIn payloadIn framed framesOf kindBytes streamAs streamOf unwritable Encodings.refusal deliveriesFrom Nexts.refusal streams Normals.refusal
+unfolding choose signed checksumFrom septetOf lowBits withTopBits anyHigh kindOf headerLength frameWidth frameCount streamLength payloadLength frameRule headerRule ruleAt breach faultAt validationFrom recordOf unframed commandIn payloadIn framed framesOf kindBytes streamAs streamOf unwritable Encodings.refusal deliveriesFrom Nexts.refusal streams Normals.refusal cut someShort elementSize notBlock flatten
 samples = refl

@@ -6,6 +6,7 @@ mod line;
 mod parts;
 mod recordings;
 mod records;
+mod sections;
 mod streams;
 
 fn main() {
@@ -13,4 +14,5 @@ fn main() {
     streams::all();
     records::all();
     recordings::all();
+    sections::all();
 }

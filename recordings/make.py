@@ -1,0 +1,341 @@
+#!/usr/bin/env python3
+"""Makes the recordings, and with read.py the listing expected of each.
+
+usage: make.py           the recordings of this folder
+       make.py FOLDER    those, and the two that are too large to ship (full, over), into FOLDER
+
+The streams are written here from RESOL's specification alone (document 000); nothing of the library is used. Each piece of a recording
+carries the lines that it must give, so that the reader is checked by the writer. The same files come out every time.
+"""
+import os
+import sys
+
+import read
+
+
+class Numbers:
+    """A fixed sequence of numbers that look random."""
+
+    def __init__(self, seed):
+        self.state = seed
+
+    def below(self, n):
+        self.state = (self.state * 6364136223846793005 + 1442695040888963407) % 2**64
+        return (self.state >> 33) % n
+
+    def some(self, count):
+        return bytes(self.below(256) for _ in range(count))
+
+
+# Document 000's two C functions.
+
+
+def checksum(data):
+    crc = 0x7F
+    for byte in data:
+        crc = (crc - byte) & 0x7F
+    return crc
+
+
+def with_septet(data):
+    septet = 0
+    for i, byte in enumerate(data):
+        if byte & 0x80:
+            septet |= 1 << i
+    return bytes(byte & 0x7F for byte in data) + bytes([septet])
+
+
+def with_checksum(data):
+    return data + bytes([checksum(data)])
+
+
+def frames(payload, width):
+    parts = [payload[at : at + width] for at in range(0, len(payload), width)]
+    return b"".join(with_checksum(with_septet(part)) for part in parts)
+
+
+def word(value):
+    return value.to_bytes(2, "little")
+
+
+def address(destination, source, version):
+    return word(destination) + word(source) + bytes([version])
+
+
+class Recording:
+    """Bytes, and the lines that they must give."""
+
+    def __init__(self):
+        self.bytes = bytearray()
+        self.lines = []
+
+    def stream(self, letter, destination, source, version, command, digits, payload, data):
+        line = f"{letter} {destination:04X} {source:04X} {version:02X} {command:0{digits}X} {payload.hex().upper()}"
+        self.lines.append(line.rstrip())
+        self.bytes += b"\xAA" + data
+
+    def packet(self, destination, source, command, payload):
+        head = address(destination, source, 0x10) + word(command) + bytes([len(payload) // 4])
+        self.stream("P", destination, source, 0x10, command, 4, payload, with_checksum(head) + frames(payload, 4))
+
+    def datagram(self, destination, source, command, identifier, value):
+        payload = word(identifier) + value.to_bytes(4, "little", signed=value < 0)
+        head = address(destination, source, 0x20) + word(command) + with_septet(payload)
+        self.stream("D", destination, source, 0x20, command, 4, payload, with_checksum(head))
+
+    def telegram(self, destination, source, command, payload=b"", version=0x30):
+        assert len(payload) == 7 * (command >> 5)
+        head = address(destination, source, version) + bytes([command])
+        self.stream("T", destination, source, version, command, 2, payload, with_checksum(head) + frames(payload, 7))
+
+    def noise(self, data):
+        """Bytes that give no line."""
+        self.bytes += data
+
+
+def one(write):
+    """The bytes of one stream."""
+    alone = Recording()
+    write(alone)
+    return bytes(alone.bytes)
+
+
+# The streams that are cut, flipped and filled with 0xAA.
+SAMPLES = [
+    lambda r: r.packet(0x4411, 0x6610, 0x0200, bytes.fromhex("07040F00")),
+    lambda r: r.packet(0x0010, 0x7E21, 0x0100, bytes.fromhex("E803F401FFFF0080")),
+    lambda r: r.datagram(0x0020, 0x7210, 0x0100, 0x1234, -750),
+    lambda r: r.telegram(0x2010, 0x7731, 0x01),
+    lambda r: r.telegram(0x7731, 0x2010, 0x23, bytes.fromhex("38900DB6C62300")),
+    lambda r: r.telegram(0x7731, 0x2110, 0x69, bytes(range(0x75, 0x8A)), version=0x31),
+]
+
+
+def examples():
+    """Every example stream of document 000, byte by byte as printed there, end to end."""
+    r = Recording()
+    r.packet(0x4411, 0x6610, 0x0200, bytes.fromhex("07040F00"))
+    r.telegram(0x2010, 0x7731, 0x01)
+    r.telegram(0x7731, 0x2010, 0x23, bytes.fromhex("38900DB6C62300"))
+    r.telegram(0x2010, 0x7731, 0x04)
+    r.telegram(0x7731, 0x2010, 0x25, bytes.fromhex("E803E900000000"))
+    r.telegram(0x7731, 0x2010, 0x25, bytes.fromhex("00C20100000000"))
+    r.telegram(0x2010, 0x7731, 0x27, bytes.fromhex("38900DB6C62301"))
+    printed = """
+        AA 11 44 10 66 10 00 02 01 21 07 04 0F 00 00 65
+        AA 10 20 31 77 30 01 76
+        AA 31 77 10 20 30 23 54 38 10 0D 36 46 23 00 1A 71
+        AA 10 20 31 77 30 04 73
+        AA 31 77 10 20 30 25 52 68 03 69 00 00 00 00 05 26
+        AA 31 77 10 20 30 25 52 00 42 01 00 00 00 00 02 3A
+        AA 10 20 31 77 30 27 50 38 10 0D 36 46 23 01 1A 70"""
+    assert r.bytes == bytes.fromhex(printed)
+    block = "020A0000 0300080000000000 010B0000 00000000 04080000" + "00" * 16 + "010C0000 00000000"
+    r.packet(0x0015, 0x7E21, 0x0100, bytes.fromhex(block))
+    parameters(r)
+    return r
+
+
+def sizes():
+    """Each kind at its smallest and its largest, with the largest addresses and commands."""
+    r = Recording()
+    numbers = Numbers(3)
+    for count in [0, 1, 126, 127]:
+        r.packet(0x7F7F, 0x7F7F, 0x7F7F, b"\xFF" * 4 * count)
+        r.packet(0x0000, 0x0000, 0x0000, b"\x00" * 4 * count)
+        r.packet(0x0010, 0x7321, 0x0300, numbers.some(4 * count))
+    for value in [0, -1, -(2**31), 2**31 - 1]:
+        r.datagram(0x7F7F, 0x0000, 0x7F00, 0xFFFF, value)
+    for version in [0x30, 0x31]:
+        for command in range(0x80):
+            r.telegram(0x2000 + command // 16, 0x7731, command, numbers.some(7 * (command >> 5)), version)
+    return r
+
+
+def damage():
+    """Each sample cut at every place, with every bit flipped, and with a 0xAA at every place; and faults with right checksums."""
+    r = Recording()
+    for sample in SAMPLES:
+        whole = one(sample)
+        for end in range(len(whole)):
+            r.noise(whole[:end])
+            sample(r)
+        for at in range(len(whole)):
+            for bit in range(8):
+                r.noise(whole[:at] + bytes([whole[at] ^ (1 << bit)]) + whole[at + 1 :])
+        for at in range(2, len(whole)):
+            # a whole stream inside another, and a sync byte alone
+            r.noise(whole[:at])
+            sample(r)
+            r.noise(whole[at:])
+            r.noise(whole[:at] + b"\xAA" + whole[at:])
+        # two sync bytes, and a sync byte at the end
+        r.noise(b"\xAA")
+        sample(r)
+        r.noise(b"\xAA")
+    for version in [0x00, 0x0F, 0x11, 0x21, 0x2F, 0x32, 0x40, 0x7F]:
+        r.noise(b"\xAA" + with_checksum(address(0x0010, 0x7E21, version) + word(0x0100) + b"\x00"))
+    for bit in [4, 5, 6]:
+        head = with_checksum(address(0x0010, 0x7E21, 0x10) + word(0x0100) + b"\x01")
+        r.noise(b"\xAA" + head + with_checksum(bytes([1, 2, 3, 4, 1 << bit])))
+    r.noise(b"\xAA" + with_checksum(address(0x0020, 0x7210, 0x20) + word(0x0100) + bytes(6) + b"\x40"))
+    # the septet left out of the frame's checksum
+    head = with_checksum(address(0x0010, 0x7E21, 0x10) + word(0x0100) + b"\x01")
+    r.noise(b"\xAA" + head + bytes([1, 2, 3, 4, 5, checksum([1, 2, 3, 4])]))
+    SAMPLES[0](r)
+    r.noise(one(SAMPLES[1])[:-1])
+    return r
+
+
+# A plant: a controller at 0x7E21 and digital sensors, with a PC that asks for values.
+
+
+def parameters(r):
+    """Document 000's table of datagrams, from the clearance on."""
+    r.datagram(0x0000, 0x7210, 0x0500, 0, 0)
+    r.datagram(0x7210, 0x0020, 0x0300, 0x1234, 0)
+    r.datagram(0x0020, 0x7210, 0x0100, 0x1234, 750)
+    r.datagram(0x7210, 0x0020, 0x0300, 0x1235, 0)
+    r.datagram(0x0020, 0x7210, 0x0100, 0x3456, 12)
+    r.datagram(0x7210, 0x0020, 0x0600, 0, 0)
+
+
+def identity(product, week, number, sub=0):
+    return product.to_bytes(3, "little") + (week * 2**17 + number).to_bytes(3, "little") + bytes([sub])
+
+
+def detect(r, group, product, first, second):
+    """Two slaves get their sub addresses."""
+    for sub, number in [(1, first), (2, second)]:
+        r.telegram(group, 0x7731, 0x01)
+        r.telegram(0x7731, group, 0x23, identity(product, 0, number))
+        r.telegram(group, 0x7731, 0x27, identity(product, 0, number, sub))
+    r.telegram(group, 0x7731, 0x01)
+    r.telegram(group, 0x7731, 0x02)
+
+
+def collide(r, group, product, first, second):
+    """Two slaves answer at once: a bit is 0 on the bus if either sends 0. The second kind of request tells them apart."""
+    r.telegram(group, 0x7731, 0x01)
+    answers = [one(lambda s: s.telegram(0x7731, group, 0x23, identity(product, 0, n))) for n in (first, second)]
+    r.noise(bytes(a & b for a, b in zip(*answers)))
+    r.telegram(group, 0x7731, 0x02)
+    r.telegram(0x7731, group, 0x23, identity(product, 0, first))
+    r.telegram(group, 0x7731, 0x27, identity(product, 0, first, 1))
+    r.telegram(group, 0x7731, 0x01)
+    r.telegram(0x7731, group, 0x23, identity(product, 0, second))
+    r.telegram(group, 0x7731, 0x27, identity(product, 0, second, 2))
+    r.telegram(group, 0x7731, 0x01)
+    r.telegram(group, 0x7731, 0x02)
+
+
+class Plant:
+    """What the controller measures: tenths of a degree, litres an hour, speeds and watt-hours."""
+
+    def __init__(self):
+        self.numbers = Numbers(2023)
+        self.temperatures = [652, 487, 311, 228, -88, 1204, 8888, 453, 402, 219, 185, -1]
+        self.heat = 1_234_567
+        self.flow = 355
+
+    def step(self):
+        for i in range(len(self.temperatures)):
+            if self.temperatures[i] != 8888:
+                self.temperatures[i] += self.numbers.below(7) - 3
+        self.flow = 300 + self.numbers.below(120)
+        self.heat += self.flow // 20
+
+    def packet(self, second):
+        payload = b"".join(t.to_bytes(2, "little", signed=True) for t in self.temperatures)
+        payload += self.flow.to_bytes(4, "little") + self.heat.to_bytes(4, "little")
+        payload += bytes([100, 64, 0, 30, 0, 100, 0, 0]) + bytes([1 if second < 150 else 0, 0, 0, 0x80])
+        return payload + (1_700_000_000 + second).to_bytes(4, "little") + bytes(48)
+
+    def block(self):
+        display = bytes([3, 0, 8, 0]) + self.temperatures[0].to_bytes(4, "little", signed=True)
+        temperatures = b"".join(t.to_bytes(2, "little", signed=True) for t in self.temperatures[:6])
+        sections = [(0x0A, display), (0x01, temperatures), (0x05, self.heat.to_bytes(4, "little"))]
+        sections += [(0x08, bytes([100, 64, 0, 30, 0, 100, 0, 0])), (0x0B, bytes(4)), (0x0C, bytes(4)), (0x0D, bytes([0x81, 0, 0, 0]))]
+        return b"".join(bytes([len(data) // 4, kind, 0, 0]) + data for kind, data in sections)
+
+
+def trouble(r, plant, second, whole):
+    """What a long line does to a stream now and then."""
+    numbers = plant.numbers
+    at = 1 + numbers.below(len(whole) - 1)
+    if second % 3 == 0:
+        r.noise(whole[:at])
+    elif second % 3 == 1:
+        r.noise(whole[:at] + bytes([whole[at] ^ (1 << numbers.below(8))]) + whole[at + 1 :])
+    else:
+        r.noise(numbers.some(1 + numbers.below(24)))
+
+
+def plant():
+    """Four minutes of a plant, from the moment that its sensors are switched on; the recording begins and ends within a stream."""
+    r = Recording()
+    p = Plant()
+    r.noise(one(lambda s: s.packet(0x0010, 0x7E21, 0x0100, p.packet(0)))[70:])
+    detect(r, 0x2010, 888888, 1023, 1099)
+    collide(r, 0x2020, 888889, 1233, 1333)
+    for second in range(240):
+        p.step()
+        payload = p.packet(second)
+        if second % 17 == 11:
+            trouble(r, p, second, one(lambda s: s.packet(0x0010, 0x7E21, 0x0100, payload)))
+        r.packet(0x0010, 0x7E21, 0x0100, payload)
+        if second % 2 == 0:
+            sub = 1 + second // 2 % 2
+            r.telegram(0x2010 + sub, 0x7731, 0x04)
+            r.telegram(0x7731, 0x2010 + sub, 0x25, word(p.flow) + p.temperatures[1].to_bytes(2, "little", signed=True) + bytes(3))
+        if second % 10 == 5:
+            r.packet(0x0015, 0x7E21, 0x0100, p.block())
+        if second % 30 == 20:
+            r.packet(0x4411, 0x6610, 0x0200, bytes([7, 4, second % 256, 0]))
+            r.packet(0x6610, 0x4411, 0x0100, bytes([0x87, 4, second % 256, 0xFF]))
+        if second % 60 == 40:
+            parameters(r)
+        elif second % 15 == 10:
+            r.datagram(0x0000, 0x7E21, 0x0500, 0, 0)
+    r.noise(one(lambda s: s.packet(0x0010, 0x7E21, 0x0100, p.packet(240)))[:101])
+    return r
+
+
+def full():
+    """The most that the lister takes, 65,536 bytes: telegrams without frames, which give the longest listing."""
+    r = Recording()
+    for i in range(65536 // 8):
+        r.telegram(0x2000 + i % 128, 0x7731, i % 32)
+    return r
+
+
+def over():
+    """One byte more. Nothing but the one line is expected."""
+    r = full()
+    r.noise(b"\x00")
+    r.lines = ["too long"]
+    return r
+
+
+SHIPPED = [examples, sizes, damage, plant, Recording]
+LARGE = [full, over]
+
+
+def write(folder, make):
+    name = "empty" if make is Recording else make.__name__
+    recording = make()
+    listing = read.listing(bytes(recording.bytes))
+    assert listing == "".join(line + "\n" for line in recording.lines), f"{name}: the reader and the writer disagree"
+    with open(os.path.join(folder, name + ".vbus"), "wb") as file:
+        file.write(recording.bytes)
+    with open(os.path.join(folder, name + ".txt"), "w", newline="\n") as file:
+        file.write(listing)
+
+
+if __name__ == "__main__":
+    if len(sys.argv) > 1:
+        for make in SHIPPED + LARGE:
+            write(sys.argv[1], make)
+    else:
+        for make in SHIPPED:
+            write(os.path.dirname(os.path.abspath(__file__)), make)
