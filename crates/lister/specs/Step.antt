@@ -10,9 +10,9 @@ use Rattle.lister.specs.declared.Step.the-variants.{Line, End}
 -- a line: the listing of what stands from the place on is that line, and then the listing of what stands from the next place on;
 -- the end: the listing of what stands from the place on is empty
 abbrev pub Advances : List ℕ → ℕ → List ℕ → Step → Type 0
-Advances s at line (Line size next) =
-    (at < next)
-    × (next ≤ length s)
-    × (size ≤ length line)
-    × (listingOf (drop at s) ≡ take size line ++ listingOf (drop next s))
+Advances s at line (Line a) =
+    (at < a .next)
+    × (a .next ≤ length s)
+    × (a .size ≤ length line)
+    × (listingOf (drop at s) ≡ take (a .size) line ++ listingOf (drop (a .next) s))
 Advances s at line End = listingOf (drop at s) ≡ []

@@ -10,9 +10,14 @@ use recording::NextRecord;
 // The most that is listed.
 const MOST: usize = 65536;
 
+// A line: how long it is, and the place behind its record's stream.
+struct Advance {
+    size: usize,
+    next: usize,
+}
+
 enum Step {
-    // The length of a line, and the place behind its record.
-    Line(usize, usize),
+    Line(Advance),
     // No record is left.
     End,
 }
@@ -25,9 +30,12 @@ fn next_line(recording: &[u8], at: usize, line: &mut [u8]) -> Step
     let mut payload = [0u8; 508];
     match recording::next(recording, at, &mut payload) {
         NextRecord::Found(found) => {
-            let size = found.payload_length;
-            match listing::line(found.header, &payload[0..size], line) {
-                Listed::Written(length) => Step::Line(length, found.place + found.length),
+            let count = found.payload_length;
+            match listing::line(found.header, &payload[0..count], line) {
+                Listed::Written(size) => Step::Line(Advance {
+                    size,
+                    next: found.place + found.length,
+                }),
                 Listed::OutputTooShort => Step::End,
             }
         }
@@ -45,9 +53,10 @@ fn list(recording: &[u8]) {
     let mut at = 0;
     loop {
         match next_line(recording, at, line) {
-            Step::Line(size, next) => {
+            Step::Line(advance) => {
+                let size = advance.size;
                 io::write_all(STDOUT_FILENO, &line[0..size]);
-                at = next;
+                at = advance.next;
             }
             Step::End => break,
         }

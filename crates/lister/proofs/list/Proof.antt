@@ -15,10 +15,10 @@ abbrev μ-loop : tie.MeasureT-loop
 μ-loop recording line₀ at₀ line at = length recording - at
 
 -- what `next_line` said of a line
-advances : (c : tie.After-size Inv-loop μ-loop)
+advances : (c : tie.After-advance Inv-loop μ-loop)
     → Advances (c .before .before .before .before .before .before .before .before .before .args .recording .now) (c .before .before .before .before .before .before .loop .at)
-    (c .before .before .before .before .next-line .last .1 .1 .0) (Line (c .size .given .0 .0) (c .size .given .0 .1 .0))
-advances c = rw (c .size .given .1) at (c .before .before .before .before .next-line .ensures)
+    (c .before .before .before .before .next-line .last .1 .1 .0) (Line (c .advance .given .0 .0))
+advances c = rw (c .advance .given .1) at (c .before .before .before .before .next-line .ensures)
 
 slice-aggregate-line : tie.Need-slice-aggregate-line Inv-loop μ-loop
 slice-aggregate-line c = search needs
@@ -29,8 +29,8 @@ loop-holds c = search needs
 next-line-requires : tie.Need-next-line-requires Inv-loop μ-loop
 next-line-requires c κs = search needs
 
-enum-known-size : tie.Need-enum-known-size Inv-loop μ-loop
-enum-known-size c = search needs
+enum-known-advance : tie.Need-enum-known-advance Inv-loop μ-loop
+enum-known-advance c = search needs
 
 sub-write-all : tie.Need-sub-write-all Inv-loop μ-loop
 sub-write-all c = search needs
@@ -65,7 +65,7 @@ list-spec =
     slice-aggregate-line
     loop-holds
     next-line-requires
-    enum-known-size
+    enum-known-advance
     sub-write-all
     part-write-all-start
     part-write-all-end

@@ -87,8 +87,8 @@ part-line-end c = omega (arith, facts (c .before .before) .small)
 line-requires : tie.Need-line-requires
 line-requires c κs = search needs
 
-enum-known-length : tie.Need-enum-known-length
-enum-known-length c = search needs
+enum-known-size : tie.Need-enum-known-size
+enum-known-size c = search needs
 
 add-t21 : tie.Need-add-t21
 add-t21 c =
@@ -114,10 +114,10 @@ returns : tie.Need-returns
 returns c =
     let l = c .before .before .before .before .before .before in
     let next = facts (from l) in
-    let size = c .before .before .length .given .0 .0 in
+    let size = c .before .before .size .given .0 .0 in
     let taken =
     line-taken (listed l) (next .writable) (out l) (start (call (from l)) .pre .1) (l .line .result) (said l) size (l .line .last .1 .1 .0)
-    (c .before .before .length .given .1) (left l) in (
+    (c .before .before .size .given .1) (left l) in (
       next .on,
       next .inside,
       taken .0,
@@ -152,7 +152,7 @@ next-line-spec =
     part-line-start
     part-line-end
     line-requires
-    enum-known-length
+    enum-known-size
     add-t21
     enum-told
     enum-told-2
