@@ -1,0 +1,306 @@
+/*
+ * Measures the deepest stack of each export: it runs on a stack of its own that was filled with a pattern, and the
+ * lowest byte that no longer holds the pattern is the depth. The depth of an empty function with the same arguments,
+ * called from the same place, is taken off; so a figure holds the export's own return address and all that it calls.
+ * Every input runs with two patterns, as a byte written may happen to equal one of them.
+ *
+ *   stack LIMIT RECORDING..    exit status 1 if an export uses more than LIMIT bytes
+ */
+#define _XOPEN_SOURCE 700
+#include <stdio.h>
+#include <stdlib.h>
+#include <string.h>
+#include <ucontext.h>
+
+#include "vbus.h"
+
+#define STACK 65536
+
+enum { CHECKSUM, EXTRACT, INJECT, VALIDATE, NEXT, ENCODE, NORMALIZE, VALUE, SECTION_COUNT, SECTION, ELEMENT_COUNT, ELEMENT, EXPORTS };
+static const char *const names[EXPORTS] = {
+    "vbus_checksum", "vbus_extract", "vbus_inject", "vbus_validate", "vbus_next", "vbus_encode",
+    "vbus_normalize", "vbus_value", "vbus_section_count", "vbus_section", "vbus_element_count", "vbus_element"};
+
+/* the arguments of the call under measurement */
+static struct {
+    int export_;
+    const uint8_t *input;
+    size_t n, start, section, element, length;
+    uint8_t septet;
+    vbus_header header;
+    uint8_t *out;
+    size_t room;
+} call;
+
+/* Empty functions, each of the type of an export: what calling costs by itself. */
+#define EMPTY __attribute__((noinline, noclone))
+#define UNUSED __attribute__((unused))
+static EMPTY uint8_t no_checksum(UNUSED const uint8_t *a, UNUSED size_t b) { __asm__(""); return 0; }
+static EMPTY vbus_septets no_extract(UNUSED const uint8_t *a, UNUSED size_t b) { static vbus_septets z; __asm__(""); return z; }
+static EMPTY vbus_septets no_inject(UNUSED const uint8_t *a, UNUSED size_t b, UNUSED uint8_t c) { static vbus_septets z; __asm__(""); return z; }
+static EMPTY vbus_validation no_validate(UNUSED const uint8_t *a, UNUSED size_t b) { static vbus_validation z; __asm__(""); return z; }
+static EMPTY vbus_found no_next(UNUSED const uint8_t *a, UNUSED size_t b, UNUSED size_t c, UNUSED uint8_t *d, UNUSED size_t e) { static vbus_found z; __asm__(""); return z; }
+static EMPTY vbus_written no_encode(UNUSED vbus_header a, UNUSED const uint8_t *b, UNUSED size_t c, UNUSED uint8_t *d, UNUSED size_t e) { static vbus_written z; __asm__(""); return z; }
+static EMPTY vbus_written no_normalize(UNUSED const uint8_t *a, UNUSED size_t b, UNUSED uint8_t *c, UNUSED size_t d) { static vbus_written z; __asm__(""); return z; }
+static EMPTY int32_t no_value(UNUSED const uint8_t *a) { __asm__(""); return 0; }
+static EMPTY vbus_count no_section_count(UNUSED vbus_header a, UNUSED const uint8_t *b, UNUSED size_t c) { static vbus_count z; __asm__(""); return z; }
+static EMPTY vbus_part no_section(UNUSED vbus_header a, UNUSED const uint8_t *b, UNUSED size_t c, UNUSED size_t d) { static vbus_part z; __asm__(""); return z; }
+static EMPTY vbus_count no_element_count(UNUSED vbus_header a, UNUSED const uint8_t *b, UNUSED size_t c, UNUSED size_t d) { static vbus_count z; __asm__(""); return z; }
+static EMPTY vbus_part no_element(UNUSED vbus_header a, UNUSED const uint8_t *b, UNUSED size_t c, UNUSED size_t d, UNUSED size_t e) { static vbus_part z; __asm__(""); return z; }
+
+/* The export and the empty function go through one pointer, so that both are called by the same code. */
+static uint8_t (*volatile f_checksum)(const uint8_t *, size_t);
+static vbus_septets (*volatile f_extract)(const uint8_t *, size_t);
+static vbus_septets (*volatile f_inject)(const uint8_t *, size_t, uint8_t);
+static vbus_validation (*volatile f_validate)(const uint8_t *, size_t);
+static vbus_found (*volatile f_next)(const uint8_t *, size_t, size_t, uint8_t *, size_t);
+static vbus_written (*volatile f_encode)(vbus_header, const uint8_t *, size_t, uint8_t *, size_t);
+static vbus_written (*volatile f_normalize)(const uint8_t *, size_t, uint8_t *, size_t);
+static int32_t (*volatile f_value)(const uint8_t *);
+static vbus_count (*volatile f_section_count)(vbus_header, const uint8_t *, size_t);
+static vbus_part (*volatile f_section)(vbus_header, const uint8_t *, size_t, size_t);
+static vbus_count (*volatile f_element_count)(vbus_header, const uint8_t *, size_t, size_t);
+static vbus_part (*volatile f_element)(vbus_header, const uint8_t *, size_t, size_t, size_t);
+
+static void choose(int empty) {
+    f_checksum = empty ? no_checksum : vbus_checksum;
+    f_extract = empty ? no_extract : vbus_extract;
+    f_inject = empty ? no_inject : vbus_inject;
+    f_validate = empty ? no_validate : vbus_validate;
+    f_next = empty ? no_next : vbus_next;
+    f_encode = empty ? no_encode : vbus_encode;
+    f_normalize = empty ? no_normalize : vbus_normalize;
+    f_value = empty ? no_value : vbus_value;
+    f_section_count = empty ? no_section_count : vbus_section_count;
+    f_section = empty ? no_section : vbus_section;
+    f_element_count = empty ? no_element_count : vbus_element_count;
+    f_element = empty ? no_element : vbus_element;
+}
+
+static union {
+    uint8_t checksum;
+    vbus_septets septets;
+    vbus_validation validation;
+    vbus_found found;
+    vbus_written written;
+    int32_t value;
+    vbus_count count;
+    vbus_part part;
+} answer;
+
+static uint8_t stack[STACK] __attribute__((aligned(64)));
+static uint8_t pattern;
+static size_t untouched;
+static ucontext_t here, there;
+static size_t deepest[EXPORTS];
+static unsigned long calls;
+
+static void run(void) {
+    switch (call.export_) {
+    case CHECKSUM: answer.checksum = f_checksum(call.input, call.n); break;
+    case EXTRACT: answer.septets = f_extract(call.input, call.length); break;
+    case INJECT: answer.septets = f_inject(call.input, call.length, call.septet); break;
+    case VALIDATE: answer.validation = f_validate(call.input, call.n); break;
+    case NEXT: answer.found = f_next(call.input, call.n, call.start, call.out, call.room); break;
+    case ENCODE: answer.written = f_encode(call.header, call.input, call.n, call.out, call.room); break;
+    case NORMALIZE: answer.written = f_normalize(call.input, call.n, call.out, call.room); break;
+    case VALUE: answer.value = f_value(call.input); break;
+    case SECTION_COUNT: answer.count = f_section_count(call.header, call.input, call.n); break;
+    case SECTION: answer.part = f_section(call.header, call.input, call.n, call.section); break;
+    case ELEMENT_COUNT: answer.count = f_element_count(call.header, call.input, call.n, call.section); break;
+    case ELEMENT: answer.part = f_element(call.header, call.input, call.n, call.section, call.element); break;
+    }
+    /* here, and without a call: what follows on this stack, back to main's, would count too */
+    size_t low = 0;
+    while (low < sizeof stack && ((volatile uint8_t *)stack)[low] == pattern) low++;
+    untouched = low;
+}
+
+static size_t depth(int empty) {
+    memset(stack, pattern, sizeof stack);
+    choose(empty);
+    if (getcontext(&there) != 0) abort();
+    there.uc_stack.ss_sp = stack;
+    there.uc_stack.ss_size = sizeof stack;
+    there.uc_link = &here;
+    makecontext(&there, run, 0);
+    if (swapcontext(&here, &there) != 0) abort();
+    if (untouched == 0) {
+        puts("stack: the measured stack was used up");
+        exit(1);
+    }
+    return sizeof stack - untouched;
+}
+
+/* Measures `call` as it stands, for one export. */
+static void measure(int export_) {
+    static const uint8_t patterns[2] = {0x5A, 0xC3};
+    call.export_ = export_;
+    for (int i = 0; i < 2; i++) {
+        pattern = patterns[i];
+        /* the empty function's only bytes are its return address, 8 */
+        size_t base = depth(1) - 8, used = depth(0) - base;
+        if (used > deepest[export_]) deepest[export_] = used;
+        calls++;
+    }
+}
+
+static uint8_t input[1 << 20], out[1 << 20], packet[4096];
+
+static vbus_header header_of(uint8_t version, uint16_t command) {
+    vbus_header made = {version, 0x0015, 0x7E21, command};
+    return made;
+}
+
+/* validate, next and normalize of what stands in the input */
+static void recording(size_t n) {
+    call.input = input;
+    call.n = n;
+    call.out = out;
+    call.start = 0;
+    measure(CHECKSUM);
+    measure(VALIDATE);
+    /* room for all; too little; just enough for no record: each ends another way */
+    static const size_t rooms[3] = {sizeof out, 0, 7};
+    for (int i = 0; i < 3; i++) {
+        call.room = rooms[i];
+        measure(NEXT);
+        measure(NORMALIZE);
+    }
+    /* the writing pass after a counting pass: room below n that still suffices */
+    call.room = sizeof out;
+    vbus_written all = vbus_normalize(input, n, out, sizeof out);
+    call.room = all.length;
+    measure(NORMALIZE);
+}
+
+static void blocks(size_t n, const uint8_t *payload) {
+    call.header = header_of(0x10, 0x0100);
+    call.input = payload;
+    call.n = n;
+    static const size_t numbers[] = {0, 1, 62, 63, 124, 125, 126, 127};
+    measure(SECTION_COUNT);
+    for (size_t i = 0; i < sizeof numbers / sizeof *numbers; i++) {
+        call.section = numbers[i];
+        for (call.element = 0; call.element < 3; call.element++) {
+            measure(SECTION);
+            measure(ELEMENT_COUNT);
+            measure(ELEMENT);
+        }
+    }
+}
+
+int main(int argc, char **argv) {
+    if (argc < 3) {
+        fprintf(stderr, "usage: stack LIMIT SECTIONS-LIMIT RECORDING..\n");
+        return 2;
+    }
+    size_t limit = strtoul(argv[1], NULL, 10);
+    size_t sections_limit = strtoul(argv[2], NULL, 10);
+    uint8_t payload[512];
+    for (size_t i = 0; i < sizeof payload; i++) payload[i] = (uint8_t)(i * 73 + 5);
+
+    for (size_t length = 0; length <= 8; length++) {
+        call.input = payload;
+        call.length = length;
+        for (unsigned septet = 0; septet < 256; septet += 5) {
+            call.septet = (uint8_t)septet;
+            measure(EXTRACT);
+            measure(INJECT);
+        }
+        uint8_t low[7] = {1, 2, 3, 4, 5, 6, 7};
+        call.input = low;
+        for (unsigned septet = 0; septet < 256; septet++) {
+            call.septet = (uint8_t)septet;
+            measure(INJECT);
+        }
+    }
+    call.input = payload;
+    measure(VALUE);
+
+    /* every kind at every payload length, with and without room */
+    for (unsigned kind = 0; kind < 4; kind++) {
+        static const uint8_t versions[4] = {0x10, 0x20, 0x30, 0x11};
+        for (unsigned frames = 0; frames <= 128; frames++) {
+            call.header = header_of(versions[kind], (uint16_t)(kind == 2 ? frames % 4 * 32 : 0x0100));
+            call.input = payload;
+            call.n = kind == 0 ? 4 * frames : kind == 2 ? 7 * (frames % 4) : 6;
+            call.out = out;
+            for (call.room = 0; call.room <= 772; call.room += 386) measure(ENCODE);
+        }
+    }
+
+    /* packets of all sizes one after the other, datagrams and telegrams between; whole, and each byte of it damaged */
+    size_t n = 0;
+    for (unsigned frames = 0; frames <= 127; frames++) {
+        n += vbus_encode(header_of(0x10, 0x0300), payload, 4 * frames, input + n, 772).length;
+        n += vbus_encode(header_of(0x20, 0x0300), payload, 6, input + n, 16).length;
+        n += vbus_encode(header_of(0x30, (uint16_t)frames), payload, frames / 32 * 7, input + n, 35).length;
+    }
+    recording(n);
+    for (unsigned frames = 0; frames <= 127; frames += 127) {
+        size_t size = vbus_encode(header_of(0x10, 0x0300), payload, 4 * frames, packet, 772).length;
+        for (size_t at = 0; at < size; at += frames == 0 ? 1 : 11) {
+            memcpy(input, packet, size);
+            input[at] ^= 1;
+            recording(size);
+            input[at] ^= 0x81;
+            recording(size);
+            memcpy(input, packet, size);
+            recording(at);
+        }
+    }
+    for (unsigned frames = 0; frames <= 3; frames++) {
+        size_t size = vbus_encode(header_of(0x31, (uint16_t)(32 * frames)), payload, 7 * frames, packet, 35).length;
+        for (size_t at = 0; at < size; at++) {
+            memcpy(input, packet, size);
+            input[at] ^= 1;
+            recording(size);
+            memcpy(input, packet, size);
+            recording(at);
+        }
+    }
+    for (int i = 3; i < argc; i++) {
+        FILE *file = fopen(argv[i], "rb");
+        if (file == NULL) {
+            perror(argv[i]);
+            return 2;
+        }
+        size_t size = fread(input, 1, sizeof input, file);
+        fclose(file);
+        recording(size);
+    }
+
+    /* 127 sections without a frame: the longest chain that there is */
+    uint8_t chain[512] = {0};
+    for (size_t i = 0; i < 127; i++) chain[4 * i + 1] = 0x01;
+    for (size_t size = 0; size <= 512; size += 4) blocks(size, chain);
+    blocks(507, chain);
+    /* 126 sections, the last with elements */
+    chain[4 * 125] = 1;
+    blocks(508, chain);
+    /* the same, the last past the end; and of an unknown type */
+    chain[4 * 125] = 2;
+    blocks(508, chain);
+    chain[4 * 125] = 1;
+    chain[4 * 125 + 1] = 0x77;
+    blocks(508, chain);
+    /* few sections, all of them long */
+    memset(chain, 0, sizeof chain);
+    chain[0] = 62;
+    chain[1] = 0x0A;
+    chain[252] = 63;
+    chain[253] = 0x08;
+    blocks(508, chain);
+
+    int over = 0;
+    printf("%-20s %6s\n", "export", "bytes");
+    for (int i = 0; i < EXPORTS; i++) {
+        size_t most = i >= SECTION_COUNT ? sections_limit : limit;
+        printf("%-20s %6zu%s\n", names[i], deepest[i], deepest[i] > most ? "  over the limit" : "");
+        over += deepest[i] > most;
+    }
+    printf("%lu calls measured; limits %zu and, of the lookups of sections, %zu bytes\n", calls, limit, sections_limit);
+    printf("%d passed, %d failed\n", EXPORTS - over, over);
+    return over == 0 ? 0 : 1;
+}
