@@ -1,0 +1,268 @@
+//! Times the proved library against the reference implementation, in one run and in turns, and
+//! prints a table of ratios (library / reference; below 1 the library is faster).
+//!
+//! Both sides get the same bytes through the same loops, and must give the same answers. Neither
+//! is inlined into the loops: the library can't be, and the reference isn't allowed to be.
+
+mod library;
+mod recordings;
+
+use library as lib;
+use recordings::Random;
+use reference::Header;
+use std::hint::black_box;
+
+const ROUNDS: usize = 9;
+/// Measurements of each side within a round, in turns; the fastest of each side counts.
+const TURNS: usize = 7;
+/// The same for work that takes long by itself.
+const LONG_TURNS: usize = 3;
+/// Short work is repeated until one measurement lasts this many nanoseconds: long against the clock's
+/// resolution, and short enough that many measurements run undisturbed on a busy machine.
+const LEAST: f64 = 500_000.0;
+/// The bus carries 9,600 bits a second, ten for a byte.
+const BUS: f64 = 960.0;
+
+// The reference, not inlined.
+
+#[inline(never)]
+fn ref_validate(input: &[u8]) -> reference::Validation {
+    reference::validate(input)
+}
+
+#[inline(never)]
+fn ref_next(input: &[u8], start: usize, payload: &mut [u8]) -> reference::Found {
+    reference::next(input, start, payload)
+}
+
+#[inline(never)]
+fn ref_normalize(input: &[u8], out: &mut [u8]) -> reference::Written {
+    reference::normalize(input, out)
+}
+
+#[inline(never)]
+fn ref_encode(header: Header, payload: &[u8], out: &mut [u8]) -> reference::Written {
+    reference::encode(header, payload, out)
+}
+
+#[inline(never)]
+fn ref_checksum(block: &[u8]) -> u8 {
+    reference::checksum(block)
+}
+
+// What is timed. Each answers with a number that depends on every answer it got.
+
+/// Validates at one place after the other, and steps over a whole stream.
+macro_rules! validate_all {
+    ($validate:expr, $input:expr) => {{
+        let input: &[u8] = black_box($input);
+        let mut place = 0;
+        let mut seen = 0usize;
+        while place < input.len() {
+            let answer = $validate(&input[place..]);
+            seen = seen
+                .wrapping_mul(31)
+                .wrapping_add(answer.offset * 8 + answer.verdict as usize);
+            place += if answer.verdict == 0 {
+                answer.offset
+            } else {
+                1
+            };
+        }
+        seen
+    }};
+}
+
+/// Reads every record.
+macro_rules! next_all {
+    ($next:expr, $input:expr, $payload:expr) => {{
+        let input: &[u8] = black_box($input);
+        let mut start = 0;
+        let mut seen = 0usize;
+        loop {
+            let answer = $next(input, start, $payload);
+            if !answer.found {
+                break;
+            }
+            black_box(&$payload);
+            seen = seen
+                .wrapping_mul(31)
+                .wrapping_add(answer.place ^ answer.payload);
+            start = answer.place + answer.length;
+        }
+        seen
+    }};
+}
+
+#[repr(C)]
+struct Timespec {
+    seconds: i64,
+    nanoseconds: i64,
+}
+
+extern "C" {
+    fn clock_gettime(clock: i32, time: *mut Timespec) -> i32;
+}
+
+/// This thread's processor time in nanoseconds: time for which another program had the processor
+/// doesn't count.
+fn now() -> f64 {
+    const CLOCK_THREAD_CPUTIME_ID: i32 = 3;
+    let mut time = Timespec {
+        seconds: 0,
+        nanoseconds: 0,
+    };
+    let status = unsafe { clock_gettime(CLOCK_THREAD_CPUTIME_ID, &mut time) };
+    assert_eq!(status, 0, "no clock of the thread's processor time");
+    time.seconds as f64 * 1e9 + time.nanoseconds as f64
+}
+
+/// Nanoseconds for one of `repeats` runs.
+fn time(repeats: u32, work: &mut dyn FnMut() -> usize) -> f64 {
+    let start = now();
+    for _ in 0..repeats {
+        black_box(work());
+    }
+    (now() - start) / f64::from(repeats)
+}
+
+fn median(sorted: &[f64]) -> f64 {
+    sorted[sorted.len() / 2]
+}
+
+fn sorted(mut numbers: Vec<f64>) -> Vec<f64> {
+    numbers.sort_by(f64::total_cmp);
+    numbers
+}
+
+/// Times both sides in turns and prints a row. `bytes` is what one run handles.
+fn compare(
+    name: &str,
+    bytes: usize,
+    mut library: impl FnMut() -> usize,
+    mut reference: impl FnMut() -> usize,
+) {
+    assert_eq!(library(), reference(), "{name}: the answers differ");
+    let mut repeats = 1;
+    while time(repeats, &mut library) * f64::from(repeats) < LEAST {
+        repeats *= 2;
+    }
+    let turns = if repeats == 1 { LONG_TURNS } else { TURNS };
+    let mut of_library = Vec::new();
+    let mut of_reference = Vec::new();
+    for _ in 0..ROUNDS {
+        let mut best = (f64::INFINITY, f64::INFINITY);
+        for _ in 0..turns {
+            best.0 = best.0.min(time(repeats, &mut library));
+            best.1 = best.1.min(time(repeats, &mut reference));
+        }
+        of_library.push(best.0);
+        of_reference.push(best.1);
+    }
+    let ratios = of_library.iter().zip(&of_reference).map(|(a, b)| a / b);
+    let ratios = sorted(ratios.collect());
+    let per_byte = median(&sorted(of_library)) / bytes as f64;
+    println!(
+        "| {name} | {:.2} | {:.2} | {:.2} | {:.3} | {:.3} | {:.0} |",
+        ratios[0],
+        median(&ratios),
+        ratios[ROUNDS - 1],
+        per_byte,
+        median(&sorted(of_reference)) / bytes as f64,
+        1e9 / per_byte / BUS,
+    );
+}
+
+fn recording(kind: &str, size: &str, input: &[u8]) {
+    let mut payload_a = [0u8; 508];
+    let mut payload_b = [0u8; 508];
+    let mut out_a = vec![0u8; input.len()];
+    let mut out_b = vec![0u8; input.len()];
+    let n = input.len();
+    compare(
+        &format!("validate, {kind}, {size}"),
+        n,
+        || validate_all!(lib::validate, input),
+        || validate_all!(ref_validate, input),
+    );
+    compare(
+        &format!("next, {kind}, {size}"),
+        n,
+        || next_all!(lib::next, input, &mut payload_a),
+        || next_all!(ref_next, input, &mut payload_b),
+    );
+    compare(
+        &format!("normalize, {kind}, {size}"),
+        n,
+        || {
+            let answer = lib::normalize(black_box(input), &mut out_a);
+            black_box(&mut out_a);
+            answer.length
+        },
+        || {
+            let answer = ref_normalize(black_box(input), &mut out_b);
+            black_box(&mut out_b);
+            answer.length
+        },
+    );
+    assert!(
+        out_a == out_b,
+        "normalize, {kind}, {size}: the bytes differ"
+    );
+}
+
+fn encode(name: &str, version: u8, command: u16, length: usize, random: &mut Random) {
+    let mut payload = [0u8; 508];
+    random.fill(&mut payload);
+    let payload = &payload[..length];
+    let header = Header {
+        version,
+        destination: 0x0010,
+        source: 0x7E21,
+        command,
+    };
+    let mut out_a = [0u8; 772];
+    let mut out_b = [0u8; 772];
+    let bytes = reference::encode(header, payload, &mut out_b).length;
+    compare(
+        &format!("encode, {name}"),
+        bytes,
+        || {
+            let answer = lib::encode(black_box(header), black_box(payload), &mut out_a);
+            black_box(&mut out_a);
+            answer.length
+        },
+        || {
+            let answer = ref_encode(black_box(header), black_box(payload), &mut out_b);
+            black_box(&mut out_b);
+            answer.length
+        },
+    );
+    assert!(out_a == out_b, "encode, {name}: the bytes differ");
+}
+
+fn main() {
+    println!("| Work | min | median | max | ns a byte | reference | times the bus |");
+    println!("|---|---|---|---|---|---|---|");
+    let mut random = Random(0x9E37_79B9_7F4A_7C15);
+    for (kind, make) in recordings::KINDS {
+        for (size, n) in [("4 KiB", 1 << 12), ("64 KiB", 1 << 16), ("16 MiB", 1 << 24)] {
+            recording(kind, size, &make(n, &mut random));
+        }
+    }
+    encode("packet of 0 frames", 0x10, 0x0100, 0, &mut random);
+    encode("packet of 8 frames", 0x10, 0x0100, 32, &mut random);
+    encode("packet of 127 frames", 0x10, 0x0100, 508, &mut random);
+    encode("datagram", 0x20, 0x0100, 6, &mut random);
+    encode("telegram of 3 frames", 0x30, 0x0065, 21, &mut random);
+    for n in [8, 256, 4096] {
+        let mut block = vec![0u8; n];
+        random.fill(&mut block);
+        compare(
+            &format!("checksum, {n} bytes"),
+            n,
+            || usize::from(lib::checksum(black_box(&block))),
+            || usize::from(ref_checksum(black_box(&block))),
+        );
+    }
+}

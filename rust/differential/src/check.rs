@@ -1,0 +1,331 @@
+//! Makes one call of the library and of the reference and compares everything they leave.
+
+use crate::library;
+use crate::rng::Rng;
+use reference::{Count, Found, Header, Part, Validation, Written};
+use std::collections::BTreeMap;
+use std::fmt;
+use std::fs::File;
+use std::io::{Seek, Write};
+
+/// A difference, described for the reader.
+#[derive(Debug)]
+pub struct Failure(pub String);
+
+pub type Checked<T> = Result<T, Failure>;
+
+/// Bytes shown in hex.
+#[derive(PartialEq, Clone)]
+pub struct Hex(pub Vec<u8>);
+
+impl fmt::Debug for Hex {
+    fn fmt(&self, f: &mut fmt::Formatter<'_>) -> fmt::Result {
+        f.write_str(&hex(&self.0))
+    }
+}
+
+pub fn hex(bytes: &[u8]) -> String {
+    let digits: String = bytes.iter().map(|byte| format!("{byte:02X}")).collect();
+    format!("[{}: {digits}]", bytes.len())
+}
+
+/// Bytes on both sides of an output that no call may change.
+const GUARD: usize = 16;
+
+/// An output, filled with a pattern, with guards around it.
+struct Output {
+    bytes: Vec<u8>,
+    from: usize,
+    to: usize,
+}
+
+impl Output {
+    fn new(rng: &mut Rng, room: usize) -> Output {
+        // Every alignment occurs.
+        let from = GUARD + rng.below(8);
+        let first = rng.byte();
+        let bytes = (0..from + room + GUARD)
+            .map(|i| first.wrapping_add((i as u8).wrapping_mul(37)))
+            .collect();
+        Output {
+            bytes,
+            from,
+            to: from + room,
+        }
+    }
+
+    /// Calls `f` with a copy; returns its answer and the whole copy afterwards.
+    fn lend<T>(&self, f: impl FnOnce(&mut [u8]) -> T) -> (T, Hex) {
+        let mut copy = self.bytes.clone();
+        let answer = f(&mut copy[self.from..self.to]);
+        (answer, Hex(copy))
+    }
+}
+
+pub struct Checker {
+    pub rng: Rng,
+    pub calls: u64,
+    /// How often each number was answered, 0 for success.
+    pub numbers: [u64; 12],
+    pub verdicts: [u64; 8],
+    pub cases: BTreeMap<&'static str, u64>,
+    /// Takes the call about to be made, to name it if it does not come back.
+    trace: Option<File>,
+}
+
+impl Checker {
+    pub fn new(seed: u64, trace: Option<File>) -> Checker {
+        Checker {
+            rng: Rng::new(seed),
+            calls: 0,
+            numbers: [0; 12],
+            verdicts: [0; 8],
+            cases: BTreeMap::new(),
+            trace,
+        }
+    }
+
+    pub fn count(&mut self, class: &'static str) {
+        *self.cases.entry(class).or_default() += 1;
+    }
+
+    /// Compares the answers of one call.
+    fn same<T: PartialEq + fmt::Debug>(
+        &mut self,
+        call: impl Fn() -> String,
+        library: impl FnOnce() -> T,
+        reference: impl FnOnce() -> T,
+    ) -> Checked<T> {
+        self.calls += 1;
+        if let Some(file) = &mut self.trace {
+            let text = call();
+            file.rewind()
+                .and_then(|()| file.set_len(0))
+                .and_then(|()| file.write_all(text.as_bytes()))
+                .expect("the trace file can be written");
+        }
+        let ours = library();
+        let theirs = reference();
+        if ours == theirs {
+            Ok(theirs)
+        } else {
+            let call = call();
+            Err(Failure(format!(
+                "{call}\n  library   {ours:?}\n  reference {theirs:?}"
+            )))
+        }
+    }
+
+    fn number(&mut self, number: u32) {
+        self.numbers[number as usize] += 1;
+    }
+
+    pub fn checksum(&mut self, block: &[u8]) -> Checked<u8> {
+        self.same(
+            || format!("vbus_checksum(block = {})", hex(block)),
+            || library::checksum(block),
+            || reference::checksum(block),
+        )
+    }
+
+    pub fn value(&mut self, payload: &[u8; 6]) -> Checked<i32> {
+        self.same(
+            || format!("vbus_value(payload = {})", hex(payload)),
+            || library::value(payload),
+            || reference::value(payload),
+        )
+    }
+
+    /// `extract` and `inject` on the same block, and each after the other.
+    pub fn septets(&mut self, bytes: [u8; 7], length: usize, septet: u8) -> Checked<()> {
+        let block = hex(&bytes);
+        let taken = self.same(
+            || format!("vbus_extract(bytes = {block}, length = {length})"),
+            || library::extract(bytes, length),
+            || reference::extract(bytes, length),
+        )?;
+        self.number(taken.number);
+        let put = self.same(
+            || format!("vbus_inject(bytes = {block}, length = {length}, septet = {septet})"),
+            || library::inject(bytes, length, septet),
+            || reference::inject(bytes, length, septet),
+        )?;
+        self.number(put.number);
+        if taken.number == 0 {
+            let back = library::inject(taken.bytes, length, taken.septet);
+            let same = back.number == 0 && back.bytes[..length] == bytes[..length];
+            self.holds(same, || {
+                format!("vbus_inject after vbus_extract of {block}, length {length}")
+            })?;
+        }
+        if put.number == 0 {
+            let back = library::extract(put.bytes, length);
+            let same = back.number == 0
+                && back.bytes[..length] == bytes[..length]
+                && back.septet == septet;
+            self.holds(same, || {
+                format!("vbus_extract after vbus_inject of {block}, length {length}, {septet}")
+            })?;
+        }
+        if length <= bytes.len() {
+            let mut block = bytes;
+            let answer = vbus::extract(&mut block[..length]);
+            let same = answer == Ok(taken.septet) && block[..length] == taken.bytes[..length];
+            self.holds(same, || {
+                format!("vbus::extract of {}", hex(&bytes[..length]))
+            })?;
+            let mut block = bytes;
+            let answer = vbus::inject(&mut block[..length], septet);
+            let same = match put.number {
+                0 => answer == Ok(()) && block[..length] == put.bytes[..length],
+                _ => answer == Err(vbus::Error::Septets) && block == bytes,
+            };
+            self.holds(same, || {
+                format!("vbus::inject of {} and {septet}", hex(&bytes[..length]))
+            })?;
+        }
+        Ok(())
+    }
+
+    pub fn validate(&mut self, input: &[u8]) -> Checked<Validation> {
+        let answer = self.same(
+            || format!("vbus_validate(input = {})", hex(input)),
+            || library::validate(input),
+            || reference::validate(input),
+        )?;
+        self.verdicts[usize::from(answer.verdict)] += 1;
+        let wrapped = match vbus::validate(input) {
+            Ok(length) => (0, length),
+            Err(fault) => (fault.verdict.number(), fault.offset),
+        };
+        self.holds(wrapped == (answer.verdict, answer.offset), || {
+            format!("vbus::validate of {}", hex(input))
+        })?;
+        Ok(answer)
+    }
+
+    pub fn next(&mut self, input: &[u8], start: usize, room: usize) -> Checked<(Found, Vec<u8>)> {
+        let output = Output::new(&mut self.rng, room);
+        let (found, Hex(left)) = self.same(
+            || {
+                let input = hex(input);
+                format!("vbus_next(input = {input}, start = {start}, room = {room})")
+            },
+            || output.lend(|out| library::next(input, start, out)),
+            || output.lend(|out| reference::next(input, start, out)),
+        )?;
+        self.number(found.number);
+        let payload = left[output.from..output.from + found.payload].to_vec();
+        Ok((found, payload))
+    }
+
+    pub fn encode(
+        &mut self,
+        header: Header,
+        payload: &[u8],
+        room: usize,
+    ) -> Checked<(Written, Vec<u8>)> {
+        let output = Output::new(&mut self.rng, room);
+        let (written, Hex(left)) = self.same(
+            || {
+                let payload = hex(payload);
+                format!("vbus_encode({header:X?}, payload = {payload}, room = {room})")
+            },
+            || output.lend(|out| library::encode(header, payload, out)),
+            || output.lend(|out| reference::encode(header, payload, out)),
+        )?;
+        self.number(written.number);
+        let stream = left[output.from..output.from + written.length].to_vec();
+        Ok((written, stream))
+    }
+
+    pub fn normalize(&mut self, input: &[u8], room: usize) -> Checked<(Written, Vec<u8>)> {
+        let output = Output::new(&mut self.rng, room);
+        let (written, Hex(left)) = self.same(
+            || {
+                let input = hex(input);
+                format!("vbus_normalize(input = {input}, room = {room})")
+            },
+            || output.lend(|out| library::normalize(input, out)),
+            || output.lend(|out| reference::normalize(input, out)),
+        )?;
+        self.number(written.number);
+        let streams = left[output.from..output.from + written.length].to_vec();
+        Ok((written, streams))
+    }
+
+    pub fn section_count(&mut self, header: Header, payload: &[u8]) -> Checked<Count> {
+        let answer = self.same(
+            || {
+                let payload = hex(payload);
+                format!("vbus_section_count({header:X?}, payload = {payload})")
+            },
+            || library::section_count(header, payload),
+            || reference::section_count(header, payload),
+        )?;
+        self.number(answer.number);
+        Ok(answer)
+    }
+
+    pub fn section(&mut self, header: Header, payload: &[u8], section: usize) -> Checked<Part> {
+        let answer = self.same(
+            || {
+                let payload = hex(payload);
+                format!("vbus_section({header:X?}, payload = {payload}, section = {section})")
+            },
+            || library::section(header, payload, section),
+            || reference::section(header, payload, section),
+        )?;
+        self.number(answer.number);
+        Ok(answer)
+    }
+
+    pub fn element_count(
+        &mut self,
+        header: Header,
+        payload: &[u8],
+        section: usize,
+    ) -> Checked<Count> {
+        let answer = self.same(
+            || {
+                let payload = hex(payload);
+                format!("vbus_element_count({header:X?}, payload = {payload}, section = {section})")
+            },
+            || library::element_count(header, payload, section),
+            || reference::element_count(header, payload, section),
+        )?;
+        self.number(answer.number);
+        Ok(answer)
+    }
+
+    pub fn element(
+        &mut self,
+        header: Header,
+        payload: &[u8],
+        section: usize,
+        element: usize,
+    ) -> Checked<Part> {
+        let answer = self.same(
+            || {
+                let payload = hex(payload);
+                format!(
+                    "vbus_element({header:X?}, payload = {payload}, section = {section}, \
+                     element = {element})"
+                )
+            },
+            || library::element(header, payload, section, element),
+            || reference::element(header, payload, section, element),
+        )?;
+        self.number(answer.number);
+        Ok(answer)
+    }
+
+    /// Fails with `what` unless `condition` holds.
+    pub fn holds(&mut self, condition: bool, what: impl Fn() -> String) -> Checked<()> {
+        if condition {
+            Ok(())
+        } else {
+            Err(Failure(format!("does not hold: {}", what())))
+        }
+    }
+}

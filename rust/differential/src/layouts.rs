@@ -1,0 +1,253 @@
+//! Calls whose answers have another value in every field, so that a wrong layout shows.
+
+use crate::check::{Checked, Checker};
+use crate::library::{self, sys};
+use reference::{Count, Found, Header, Part, Septets, Validation, Written};
+use std::mem::{offset_of, size_of, transmute};
+
+const HEADER: Header = Header {
+    version: 0x10,
+    destination: 0x1234,
+    source: 0x5678,
+    command: 0x1A2B,
+};
+
+const PAYLOAD: [u8; 8] = [0x80, 0x01, 0x02, 0x83, 0x44, 0xF5, 0x66, 0x77];
+
+/// `HEADER` and `PAYLOAD` as a stream, worked out by hand.
+const STREAM: [u8; 22] = [
+    0xAA, 0x34, 0x12, 0x78, 0x56, 0x10, 0x2B, 0x1A, 0x02, 0x14, // header
+    0x00, 0x01, 0x02, 0x03, 0x09, 0x70, // 80 01 02 83
+    0x44, 0x75, 0x66, 0x77, 0x02, 0x67, // 44 F5 66 77
+];
+
+/// `Found` with the flag as the byte that it is.
+#[repr(C)]
+struct FoundBytes {
+    number: u32,
+    found: u8,
+    place: usize,
+    length: usize,
+    header: sys::Header,
+    payload: usize,
+}
+
+impl Checker {
+    pub fn layouts(&mut self) -> Checked<()> {
+        self.sizes()?;
+        self.answers()?;
+        self.headers_by_value()?;
+        self.flag()
+    }
+
+    fn expect<T: PartialEq + std::fmt::Debug>(
+        &mut self,
+        what: &str,
+        answer: T,
+        expected: T,
+    ) -> Checked<()> {
+        self.count("layout");
+        self.holds(answer == expected, || {
+            format!("{what} gives {expected:X?}; it gave {answer:X?}")
+        })
+    }
+
+    fn sizes(&mut self) -> Checked<()> {
+        let sizes = [
+            size_of::<sys::Header>(),
+            size_of::<sys::Validation>(),
+            size_of::<sys::Found>(),
+            size_of::<sys::Written>(),
+            size_of::<sys::Count>(),
+            size_of::<sys::Part>(),
+            size_of::<sys::Septets>(),
+        ];
+        self.expect("sizes on x86-64", sizes, [8, 16, 40, 16, 16, 24, 32])?;
+        let offsets = [
+            offset_of!(sys::Found, found),
+            offset_of!(sys::Found, place),
+            offset_of!(sys::Found, length),
+            offset_of!(sys::Found, header),
+            offset_of!(sys::Found, payload),
+            offset_of!(sys::Septets, bytes),
+            offset_of!(sys::Septets, length),
+            offset_of!(sys::Septets, septet),
+        ];
+        self.expect("offsets on x86-64", offsets, [4, 8, 16, 24, 32, 4, 16, 24])
+    }
+
+    fn answers(&mut self) -> Checked<()> {
+        let input = [&[0x01, 0x02, 0x03][..], &STREAM].concat();
+        let mut payload = [0xEE; 9];
+        let found = library::next(&input, 0, &mut payload);
+        self.expect(
+            "vbus_next",
+            found,
+            Found {
+                number: 0,
+                found: true,
+                place: 3,
+                length: 22,
+                header: HEADER,
+                payload: 8,
+            },
+        )?;
+        self.expect("vbus_next's payload", &payload[..8], &PAYLOAD[..])?;
+        self.expect("the byte behind it", payload[8], 0xEE)?;
+
+        let refused = library::next(&input, 26, &mut payload);
+        let expected = Found {
+            number: 6,
+            ..Found::default()
+        };
+        self.expect("vbus_next behind the end", refused, expected)?;
+
+        let mut wrong = STREAM;
+        wrong[21] ^= 1;
+        let verdict = Validation {
+            verdict: 6,
+            offset: 21,
+        };
+        self.expect("vbus_validate", library::validate(&wrong), verdict)?;
+
+        let block = [0x81, 0x02, 0x83, 0x84, 0x05, 0x99, 0x99];
+        let septets = Septets {
+            number: 0,
+            bytes: [0x01, 0x02, 0x03, 0x04, 0x05, 0, 0],
+            length: 5,
+            septet: 0x0D,
+        };
+        self.expect("vbus_extract", library::extract(block, 5), septets)?;
+        let back = Septets {
+            number: 0,
+            bytes: [0x81, 0x02, 0x83, 0x84, 0x05, 0, 0],
+            length: 5,
+            septet: 0,
+        };
+        let put = library::inject([0x01, 0x02, 0x03, 0x04, 0x05, 0x66, 0x99], 5, 0x0D);
+        self.expect("vbus_inject", put, back)?;
+
+        let value = library::value(&[0x11, 0x22, 0x84, 0x73, 0x62, 0xF1]);
+        self.expect("vbus_value", value, -0x0E9D_8C7C)?;
+        self.expect("vbus_checksum", library::checksum(&STREAM[1..9]), 0x14)
+    }
+
+    fn headers_by_value(&mut self) -> Checked<()> {
+        let mut out = [0xEE; 24];
+        let written = library::encode(HEADER, &PAYLOAD, &mut out);
+        let expected = Written {
+            number: 0,
+            length: 22,
+        };
+        self.expect("vbus_encode", written, expected)?;
+        self.expect("vbus_encode's stream", &out[..22], &STREAM[..])?;
+        self.expect("the bytes behind it", &out[22..], &[0xEE; 2][..])?;
+
+        // Each field alone decides a refusal, so none is taken for another.
+        for (header, number) in [
+            (
+                Header {
+                    version: 0x11,
+                    ..HEADER
+                },
+                1,
+            ),
+            (
+                Header {
+                    destination: 0x9234,
+                    ..HEADER
+                },
+                2,
+            ),
+            (
+                Header {
+                    source: 0x56F8,
+                    ..HEADER
+                },
+                2,
+            ),
+            (
+                Header {
+                    command: 0x9A2B,
+                    ..HEADER
+                },
+                3,
+            ),
+        ] {
+            let written = library::encode(header, &PAYLOAD, &mut out);
+            self.expect("a wrong field", written, Written { number, length: 0 })?;
+        }
+
+        let block = Header {
+            version: 0x10,
+            destination: 0x0015,
+            source: 0x5678,
+            command: 0x0100,
+        };
+        let payload = [
+            0, 0x77, 0, 0, // no payload
+            1, 0x08, 0, 0, 1, 2, 3, 4, // four relays
+            4, 0x01, 0, 0, 1, 2, 3, 4, 5, 6, 7, 8, 9, 10, 11, 12, 13, 14, 15, 16,
+        ];
+        let count = |number, count| Count { number, count };
+        let part = |number, start, length| Part {
+            number,
+            start,
+            length,
+        };
+        let answer = library::section_count(block, &payload);
+        self.expect("vbus_section_count", answer, count(0, 3))?;
+        let answer = library::section(block, &payload, 2);
+        self.expect("vbus_section", answer, part(0, 12, 20))?;
+        let answer = library::element_count(block, &payload, 2);
+        self.expect("vbus_element_count", answer, count(0, 8))?;
+        let answer = library::element(block, &payload, 2, 5);
+        self.expect("vbus_element", answer, part(0, 26, 2))?;
+        let answer = library::element(block, &payload, 0, 5);
+        self.expect("vbus_element", answer, part(11, 0, 0))?;
+
+        // The byte of padding in a header may hold anything.
+        type ByHeader = unsafe extern "C" fn(sys::Header, *const u8, usize) -> sys::Count;
+        type ByWord = unsafe extern "C" fn(u64, *const u8, usize) -> sys::Count;
+        // SAFETY: a header of eight bytes is passed in one register, as a u64 is.
+        let by_word = unsafe { transmute::<ByHeader, ByWord>(sys::vbus_section_count) };
+        for padding in [0x00, 0x5A, 0x80, 0xFF] {
+            let word = u64::from_le_bytes([0x10, padding, 0x15, 0x00, 0x78, 0x56, 0x00, 0x01]);
+            // SAFETY: pointer and count are those of an array.
+            let answer = unsafe { by_word(word, payload.as_ptr(), payload.len()) };
+            let answer = (answer.number, answer.count);
+            self.expect("a header with padding", answer, (0, 3))?;
+        }
+        Ok(())
+    }
+
+    /// The flag is 0 or 1, as C's and Rust's bool must be.
+    fn flag(&mut self) -> Checked<()> {
+        type Next = unsafe extern "C" fn(*const u8, usize, usize, *mut u8, usize) -> sys::Found;
+        type NextBytes =
+            unsafe extern "C" fn(*const u8, usize, usize, *mut u8, usize) -> FoundBytes;
+        // SAFETY: the two answers differ only in bool and u8, which have the same size.
+        let next = unsafe { transmute::<Next, NextBytes>(sys::vbus_next) };
+        let mut out = [0; 8];
+        for (start, room, expected) in [
+            (0, 8, (0, 1, 0, 22, 0x1A2B, 8)),
+            (1, 8, (0, 0, 0, 0, 0, 0)),
+            (0, 7, (5, 0, 0, 0, 0, 0)),
+            (23, 8, (6, 0, 0, 0, 0, 0)),
+        ] {
+            // SAFETY: pointers and counts are those of arrays; `room` is at most the length.
+            let answer =
+                unsafe { next(STREAM.as_ptr(), STREAM.len(), start, out.as_mut_ptr(), room) };
+            let fields = (
+                answer.number,
+                answer.found,
+                answer.place,
+                answer.length,
+                answer.header.command,
+                answer.payload,
+            );
+            self.expect("vbus_next, with the flag as a byte", fields, expected)?;
+        }
+        Ok(())
+    }
+}

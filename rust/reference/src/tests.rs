@@ -1,0 +1,321 @@
+//! The samples that come with the rules, and the other examples of the specification.
+
+use super::*;
+
+const P1: [u8; 16] = [
+    0xAA, 0x11, 0x44, 0x10, 0x66, 0x10, 0x00, 0x02, 0x01, 0x21, 0x07, 0x04, 0x0F, 0x00, 0x00, 0x65,
+];
+const D1: [u8; 16] = [
+    0xAA, 0x20, 0x00, 0x11, 0x19, 0x20, 0x00, 0x01, 0x00, 0x00, 0x00, 0x00, 0x00, 0x00, 0x00, 0x14,
+];
+const T1: [u8; 8] = [0xAA, 0x10, 0x20, 0x31, 0x77, 0x30, 0x01, 0x76];
+const T2: [u8; 17] = [
+    0xAA, 0x31, 0x77, 0x10, 0x20, 0x30, 0x23, 0x54, 0x38, 0x10, 0x0D, 0x36, 0x46, 0x23, 0x00, 0x1A,
+    0x71,
+];
+const T3: [u8; 17] = [
+    0xAA, 0x31, 0x77, 0x10, 0x20, 0x30, 0x25, 0x52, 0x68, 0x03, 0x69, 0x00, 0x00, 0x00, 0x00, 0x05,
+    0x26,
+];
+
+const BLOCK: Header = Header {
+    version: 0x10,
+    destination: 0x0015,
+    source: 0x1234,
+    command: 0x0100,
+};
+
+/// The payload of the specification's block packet: smart display, two masks, relay speeds.
+fn block_payload() -> [u8; 48] {
+    let mut payload = [0; 48];
+    payload[0..5].copy_from_slice(&[2, 0x0A, 0, 0, 3]);
+    payload[6] = 8;
+    payload[12..14].copy_from_slice(&[1, 0x0B]);
+    payload[20..22].copy_from_slice(&[4, 0x08]);
+    payload[40..42].copy_from_slice(&[1, 0x0C]);
+    payload
+}
+
+fn verdict(verdict: u8, offset: usize) -> Validation {
+    Validation { verdict, offset }
+}
+
+fn packet(destination: u16, payload: usize) -> Written {
+    let header = Header {
+        version: 0x10,
+        destination,
+        ..Header::default()
+    };
+    encode(header, &vec![0; payload], &mut [0; 800])
+}
+
+/// `next` and `encode` take the stream apart and put it together again.
+fn round_trip(stream: &[u8]) -> (Header, Vec<u8>) {
+    let mut payload = [0; 508];
+    let found = next(stream, 0, &mut payload);
+    assert_eq!((found.number, found.found), (0, true));
+    assert_eq!((found.place, found.length), (0, stream.len()));
+    let payload = payload[..found.payload].to_vec();
+    let mut out = vec![0; stream.len()];
+    let written = encode(found.header, &payload, &mut out);
+    assert_eq!((written.number, written.length), (0, stream.len()));
+    assert_eq!(out, stream);
+    (found.header, payload)
+}
+
+#[test]
+fn samples_are_valid() {
+    for stream in [&P1[..], &D1, &T1, &T2, &T3] {
+        assert_eq!(validate(stream), verdict(0, stream.len()));
+        round_trip(stream);
+    }
+    let (header, payload) = round_trip(&P1);
+    assert_eq!(payload, [0x07, 0x04, 0x0F, 0x00]);
+    assert_eq!(
+        header,
+        Header {
+            version: 0x10,
+            destination: 0x4411,
+            source: 0x6610,
+            command: 0x0200,
+        }
+    );
+    let (_, payload) = round_trip(&T2);
+    assert_eq!(payload, [0x38, 0x90, 0x0D, 0xB6, 0xC6, 0x23, 0x00]);
+}
+
+#[test]
+fn other_examples_of_the_specification() {
+    let request_data = [0xAA, 0x10, 0x20, 0x31, 0x77, 0x30, 0x04, 0x73];
+    let change_baud_rate = [
+        0xAA, 0x31, 0x77, 0x10, 0x20, 0x30, 0x25, 0x52, 0x00, 0x42, 0x01, 0x00, 0x00, 0x00, 0x00,
+        0x02, 0x3A,
+    ];
+    let change_sub_address = [
+        0xAA, 0x10, 0x20, 0x31, 0x77, 0x30, 0x27, 0x50, 0x38, 0x10, 0x0D, 0x36, 0x46, 0x23, 0x01,
+        0x1A, 0x70,
+    ];
+    round_trip(&request_data);
+    let (_, payload) = round_trip(&change_baud_rate);
+    assert_eq!(payload, [0x00, 0xC2, 0x01, 0x00, 0x00, 0x00, 0x00]);
+    let (_, payload) = round_trip(&change_sub_address);
+    assert_eq!(payload, [0x38, 0x90, 0x0D, 0xB6, 0xC6, 0x23, 0x01]);
+}
+
+#[test]
+fn faults() {
+    assert_eq!(validate(&[]), verdict(7, 0));
+    assert_eq!(validate(&[0x00]), verdict(1, 0));
+    assert_eq!(validate(&P1[..15]), verdict(7, 15));
+    for end in 0..P1.len() {
+        assert_eq!(validate(&P1[..end]), verdict(7, end));
+    }
+    let mut wrong = T1;
+    wrong[7] = 0x77;
+    assert_eq!(validate(&wrong), verdict(4, 7));
+    let mut wrong = P1;
+    wrong[14] = 0x10;
+    wrong[15] = 0x55;
+    assert_eq!(validate(&wrong), verdict(5, 14));
+    // The septet is judged even when the frame's checksum is missing.
+    assert_eq!(validate(&wrong[..15]), verdict(5, 14));
+    let mut wrong = P1;
+    wrong[15] = 0x64;
+    assert_eq!(validate(&wrong), verdict(6, 15));
+    let mut wrong = P1;
+    wrong[5] = 0x11;
+    assert_eq!(validate(&wrong), verdict(3, 5));
+    wrong[5] = 0x90;
+    assert_eq!(validate(&wrong), verdict(2, 5));
+    let mut wrong = D1;
+    wrong[15] = 0x15;
+    assert_eq!(validate(&wrong), verdict(4, 15));
+    wrong[14] = 0x40;
+    assert_eq!(validate(&wrong), verdict(5, 14));
+}
+
+#[test]
+fn finding_records() {
+    assert_eq!(next(&[], 0, &mut []), Found::default());
+    assert_eq!(
+        next(&[], 1, &mut []),
+        Found {
+            number: 6,
+            ..Found::default()
+        }
+    );
+    let mut input = vec![0xAA];
+    input.extend(P1);
+    assert_eq!(validate(&input), verdict(2, 1));
+    let mut payload = [0xEE; 5];
+    let found = next(&input, 0, &mut payload);
+    assert_eq!((found.place, found.length, found.payload), (1, 16, 4));
+    assert_eq!(payload, [0x07, 0x04, 0x0F, 0x00, 0xEE]);
+    let mut short = [0xEE; 3];
+    assert_eq!(
+        next(&input, 0, &mut short),
+        Found {
+            number: 5,
+            ..Found::default()
+        }
+    );
+    assert_eq!(short, [0xEE; 3]);
+    assert!(!next(&input, 2, &mut []).found);
+}
+
+#[test]
+fn a_record_inside_a_damaged_stream() {
+    // The packet announces 127 frames; a valid telegram follows at once.
+    let mut input = vec![0xAA, 0x11, 0x44, 0x10, 0x66, 0x10, 0x00, 0x02, 0x7F, 0x23];
+    assert_eq!(validate(&input), verdict(7, 10));
+    input.extend(T1);
+    assert_eq!(next(&input, 0, &mut []).place, 10);
+    assert_eq!(next(&input, 18, &mut []), Found::default());
+}
+
+#[test]
+fn writing() {
+    assert_eq!(packet(0, 508).length, 772);
+    assert_eq!(packet(0, 512).number, 4);
+    assert_eq!(packet(0, 3).number, 4);
+    assert_eq!(packet(0x0080, 0).number, 2);
+    assert_eq!(packet(0x7F7F, 0).number, 0);
+    let telegram = |command, payload: usize| {
+        let header = Header {
+            version: 0x30,
+            command,
+            ..Header::default()
+        };
+        encode(header, &vec![0; payload], &mut [0; 40]).number
+    };
+    assert_eq!(telegram(0x14, 0), 0);
+    assert_eq!(telegram(0x14, 7), 4);
+    assert_eq!(telegram(0x7F, 21), 0);
+    assert_eq!(telegram(0x80, 0), 3);
+    let mut short = [0xEE; 15];
+    let header = Header {
+        version: 0x20,
+        ..Header::default()
+    };
+    assert_eq!(encode(header, &[0; 6], &mut short).number, 5);
+    assert_eq!(short, [0xEE; 15]);
+}
+
+#[test]
+fn normalizing() {
+    assert_eq!(normalize(&[], &mut []), Written::default());
+    let mut input = vec![0x00, 0xAA, 0xAA];
+    input.extend(&P1[..15]);
+    input.extend(P1);
+    input.push(0x55);
+    input.extend(T2);
+    let mut expected = P1.to_vec();
+    expected.extend(T2);
+    for room in 0..60 {
+        let mut out = vec![0xEE; room];
+        let written = normalize(&input, &mut out);
+        if room < 33 {
+            assert_eq!((written.number, written.length), (5, 0));
+            assert_eq!(out, vec![0xEE; room]);
+        } else {
+            assert_eq!((written.number, written.length), (0, 33));
+            assert_eq!(out[..33], expected);
+            assert_eq!(out[33..], vec![0xEE; room - 33]);
+        }
+    }
+}
+
+#[test]
+fn checksums() {
+    assert_eq!(checksum(&[]), 0x7F);
+    assert_eq!(checksum(&P1[1..9]), 0x21);
+    assert_eq!(checksum(&[0x68, 0x03, 0x74, 0x01, 0x05]), 0x1A);
+}
+
+#[test]
+fn septets() {
+    let block = [0xE8, 0x03, 0xF4, 0x01, 0x99, 0x99, 0x99];
+    let moved = extract(block, 4);
+    assert_eq!(
+        moved,
+        Septets {
+            number: 0,
+            bytes: [0x68, 0x03, 0x74, 0x01, 0, 0, 0],
+            length: 4,
+            septet: 5,
+        }
+    );
+    let back = inject(moved.bytes, 4, 5);
+    assert_eq!(back.bytes, [0xE8, 0x03, 0xF4, 0x01, 0, 0, 0]);
+    assert_eq!((back.number, back.length, back.septet), (0, 4, 0));
+    let refused = Septets {
+        number: 7,
+        ..Septets::default()
+    };
+    assert_eq!(extract(block, 8), refused);
+    assert_eq!(extract(block, usize::MAX), refused);
+    assert_eq!(inject([0; 7], 8, 0), refused);
+    assert_eq!(inject(block, 4, 0), refused);
+    assert_eq!(inject([0; 7], 4, 0x10), refused);
+    assert_eq!(inject([0; 7], 7, 0x80), refused);
+    assert_eq!(inject([0; 7], 0, 0).number, 0);
+    assert_eq!(inject([0x99; 7], 0, 0).number, 0);
+}
+
+#[test]
+fn values() {
+    assert_eq!(value(&[9, 9, 0xFF, 0xFF, 0xFF, 0xFF]), -1);
+    assert_eq!(value(&[9, 9, 0, 0, 0, 0x80]), i32::MIN);
+    assert_eq!(value(&[9, 9, 0xEE, 0x02, 0, 0]), 750);
+}
+
+#[test]
+fn sections() {
+    let payload = block_payload();
+    assert_eq!(section_count(BLOCK, &payload).count, 4);
+    let elements: Vec<usize> = (0..4)
+        .map(|k| element_count(BLOCK, &payload, k).count)
+        .collect();
+    assert_eq!(elements, [1, 1, 16, 1]);
+    let third = section(BLOCK, &payload, 2);
+    assert_eq!((third.number, third.start, third.length), (0, 20, 20));
+    let speed = element(BLOCK, &payload, 2, 15);
+    assert_eq!((speed.number, speed.start, speed.length), (0, 39, 1));
+    assert_eq!(element(BLOCK, &payload, 2, 16).number, 10);
+    assert_eq!(section(BLOCK, &payload, 4).number, 10);
+    assert_eq!(section_count(BLOCK, &[]).count, 0);
+    assert_eq!(section(BLOCK, &[], 0).number, 10);
+}
+
+#[test]
+fn broken_sections() {
+    let mut payload = [2, 0x0B, 0, 0, 0, 0, 0, 0];
+    assert_eq!(section_count(BLOCK, &payload).number, 9);
+    assert_eq!(section(BLOCK, &payload, 7).number, 9);
+    payload[0] = 1;
+    assert_eq!(section_count(BLOCK, &payload).count, 1);
+    payload[1] = 0x02;
+    assert_eq!(section_count(BLOCK, &payload).count, 1);
+    assert_eq!(element_count(BLOCK, &payload, 0).number, 11);
+    assert_eq!(element(BLOCK, &payload, 0, 9).number, 11);
+    assert_eq!(element(BLOCK, &payload, 1, 0).number, 10);
+    assert_eq!(section_count(BLOCK, &payload[..7]).number, 8);
+    assert_eq!(section_count(BLOCK, &[0; 512]).number, 8);
+    assert_eq!(section_count(BLOCK, &[0; 508]).count, 127);
+    let other = Header {
+        command: 0x0200,
+        ..BLOCK
+    };
+    assert_eq!(section_count(other, &payload).number, 8);
+}
+
+#[test]
+fn hostile_input_takes_linear_time() {
+    let mut input = vec![0xAA; 1 << 20];
+    assert!(!next(&input, 0, &mut []).found);
+    for byte in input.iter_mut().skip(1).step_by(2) {
+        *byte = 0x10;
+    }
+    assert!(!next(&input, 0, &mut []).found);
+    assert_eq!(normalize(&input, &mut []), Written::default());
+}
