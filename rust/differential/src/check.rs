@@ -89,6 +89,17 @@ impl Checker {
         *self.cases.entry(class).or_default() += 1;
     }
 
+    /// Writes the call about to be made to the trace, if there is one.
+    pub fn note(&mut self, call: impl Fn() -> String) {
+        if let Some(file) = &mut self.trace {
+            let text = call();
+            file.rewind()
+                .and_then(|()| file.set_len(0))
+                .and_then(|()| file.write_all(text.as_bytes()))
+                .expect("the trace file can be written");
+        }
+    }
+
     /// Compares the answers of one call.
     fn same<T: PartialEq + fmt::Debug>(
         &mut self,
@@ -97,13 +108,7 @@ impl Checker {
         reference: impl FnOnce() -> T,
     ) -> Checked<T> {
         self.calls += 1;
-        if let Some(file) = &mut self.trace {
-            let text = call();
-            file.rewind()
-                .and_then(|()| file.set_len(0))
-                .and_then(|()| file.write_all(text.as_bytes()))
-                .expect("the trace file can be written");
-        }
+        self.note(&call);
         let ours = library();
         let theirs = reference();
         if ours == theirs {

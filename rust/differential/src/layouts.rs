@@ -34,6 +34,7 @@ struct FoundBytes {
 
 impl Checker {
     pub fn layouts(&mut self) -> Checked<()> {
+        self.note(|| "the first layout check".to_string());
         self.sizes()?;
         self.answers()?;
         self.headers_by_value()?;
@@ -47,6 +48,8 @@ impl Checker {
         expected: T,
     ) -> Checked<()> {
         self.count("layout");
+        // These calls are made without a trace; the last one that came back says where.
+        self.note(|| format!("the layout check after that of {what}"));
         self.holds(answer == expected, || {
             format!("{what} gives {expected:X?}; it gave {answer:X?}")
         })

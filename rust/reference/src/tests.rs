@@ -117,7 +117,7 @@ fn faults() {
     wrong[14] = 0x10;
     wrong[15] = 0x55;
     assert_eq!(validate(&wrong), verdict(5, 14));
-    // The septet is judged even when the frame's checksum is missing.
+    // The septet counts even when the frame's checksum is missing.
     assert_eq!(validate(&wrong[..15]), verdict(5, 14));
     let mut wrong = P1;
     wrong[15] = 0x64;
