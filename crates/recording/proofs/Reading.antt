@@ -11,6 +11,10 @@ use Rattle.basics.specs.Bytes.{over}
 use Rattle.basics.specs.Choice.{choose}
 use Rattle.stream.specs.Layout.{kind, headerLength, frameWidth, frameCount, lengthAs, payloadLength}
 use Rattle.stream.specs.declared.Kind.{Kind}
+use Rattle.stream.specs.Validation.{validationOf}
+use Rattle.stream.proofs.Offsets.{low-before}
+use native.Mathlib.Decide.{ℕ-discrete}
+use mathlib.Core.Logic.{dite}
 use lib.Seq.{getD-drop}
 use Rattle.septet.specs.Septet.{withTopBits}
 use Rattle.record.specs.Record.{unframed, recordOf, payloadIn}
@@ -31,6 +35,19 @@ after-sync s start r sync =
     after-skip s start (r - start)
     (λ k above below inside w. sync .passed k (omega arith) above inside (ap (λ (n : ℕ). getD s n 0) (sym (add-zero k)) ∙ sym (getD-drop k s 0 0) ∙ whole-sync (drop k s) w))
     ∙ ap (deliveriesAfter s) back
+
+-- nor between a sync byte that begins none and the fault that is found behind it
+pub after-fault : (s : List ℕ) (at : ℕ) → (Whole (drop at s) → ⊥) → deliveriesAfter s at ≡ deliveriesAfter s (at + validationOf (drop at s) .offset)
+after-fault s at faulty = after-skip s at (validationOf (drop at s) .offset) passed
+  where
+    passed : (k : ℕ) → at ≤ k → k < at + validationOf (drop at s) .offset → k < length s → Whole (drop k s) → ⊥
+    passed k above below inside w =
+        dite (ℕ-discrete k at) (λ e. faulty (rw (sym e) w))
+        (λ ne.
+        let low = low-before (drop at s) (k - at) (omega arith) (omega arith) in
+        let same : getD (drop at s) (k - at) 0 ≡ getD (drop k s) 0 0 =
+        getD-drop at s (k - at) 0 ∙ ap (λ (n : ℕ). getD s n 0) (omega arith) ∙ sym (getD-drop k s 0 0) in
+        omega (arith, low, same, whole-sync (drop k s) w))
 
 -- ── a payload's bytes are there, and have room
 

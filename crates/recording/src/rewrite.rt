@@ -3,10 +3,7 @@ ghost use mathlib.Core.Path.{_≡_};
 ghost use Prim.Native.Nat.{_≤_};
 ghost use lib.ListN.{length};
 ghost use Rattle.basics.specs.Bytes.{over};
-ghost use Rattle.stream.specs.Validation.{validationOf};
-ghost use Rattle.record.specs.Record.{recordOf, streamOf};
 ghost use Rattle.recording.specs.Normalize.{normalized};
-use crate::read;
 use crate::search::Search;
 use crate::search::first_whole;
 
@@ -27,18 +24,8 @@ pub fn measure(input: &[u8]) -> usize
     }
 }
 
-// Writes the stream of the record that a whole stream says.
-fn one(stream: &[u8], out: &mut [u8])
-    requires { ⌜ (validationOf (now stream) .number ≡ 0) × (length (streamOf (recordOf (now stream))) ≤ length (now out)) ⌝ }
-    ensures { λ r. ⌜ now (out .exit) ≡ over (streamOf (recordOf (now (stream .entry)))) (now (out .entry)) ⌝ }
-{
-    let mut payload = [0u8; 508];
-    let header = read::header(stream);
-    let size = read::payload(stream, &mut payload);
-    record::encode(header, &payload[0..size], out);
-}
-
 // Writes the records one behind the other, each to the rest of the output, and returns how many bytes they take.
+// A whole stream is just what writing its record gives (law `whole-again`), so its bytes are copied.
 pub fn all(input: &[u8], out: &mut [u8]) -> usize
     requires { ⌜ length (normalized (now input)) ≤ length (now out) ⌝ }
     ensures { λ r. ⌜ r ≡ length (normalized (now (input .entry))) ⌝ }
@@ -50,9 +37,9 @@ pub fn all(input: &[u8], out: &mut [u8]) -> usize
         match first_whole(input, at) {
             Search::At(span) => {
                 let place = span.place;
-                one(&input[place..], &mut out[to..]);
-                to += span.length;
                 at = place + span.length;
+                bytes::copy(&input[place..at], &mut out[to..]);
+                to += span.length;
             }
             Search::Nothing => break to,
         }

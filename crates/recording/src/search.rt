@@ -46,6 +46,6 @@ pub fn first_whole(input: &[u8], start: usize) -> Search
                 length: validation.offset,
             });
         }
-        at += 1; // and no further: a 0xAA may stand inside the damaged stream
+        at += validation.offset; // to the fault: no byte before it is a sync byte, but it may be one itself
     }
 }

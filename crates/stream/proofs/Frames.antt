@@ -1,10 +1,10 @@
 -- Laws of frames: what the check of one frame has reached, at each place where it answers, and what that says of the stream.
-use Prim.Native.Nat.{ℕ, _+_, _*_, _≤_, _<_}
+use Prim.Native.Nat.{ℕ, suc, _+_, _-_, _*_, _≤_, _<_}
 use native.Mathlib.Omega.{arith}
 use native.Mathlib.Decide.{decLt}
-use native.Mathlib.Nat.{mul-suc, mul-le-mul-left, zero-add}
+use native.Mathlib.Nat.{mul-zero, mul-suc, zero-add, add-zero, eq-zero-or-pos}
 use mathlib.Core.Path.{_≡_, refl, ap, _∙_, sym, subst, subst⁻¹}
-use mathlib.Core.Logic.{dite}
+use mathlib.Core.Logic.{⊎-elim, dite}
 use mathlib.Core.List.{List}
 use lib.ListN.{length, getD, take, drop, length-drop}
 use lib.Seq.{length-take-le}
@@ -12,7 +12,7 @@ use Rattle.checksum.specs.Checksum.{checksumOf}
 use Rattle.septet.specs.Septet.{unusedBits}
 use Rattle.stream.specs.Layout.{kind, streamLength}
 use Rattle.stream.specs.Validation.{frameRule, ruleAt, breach, faultAt}
-use Rattle.stream.specs.Stage.{Clean, Reached, whole, found, frameFault, FirstHigh, Lesser, FramesFrom}
+use Rattle.stream.specs.Stage.{Clean, Reached, whole, found, frameFault, AllLow, FirstHigh, Lesser, FramesFrom}
 use Rattle.stream.proofs.Faults.{place-any, place-septet, place-sum, by-place, septet-right, septet-wrong, frameSum-right, frameSum-wrong, frame-high, frame-low, frame-part, breach-any, stop-reached}
 use Rattle.stream.proofs.Reached.{through, joined, moved}
 
@@ -64,7 +64,14 @@ module _ (width : ℕ) {part : List ℕ} {stop : ℕ} (first : FirstHigh part 0 
   frame-whole past septet sum =
       whole refl refl (clean-to (width + 2) (omega arith) (λ far. septet) (λ far. sum)) (omega (arith, first .within))
 
--- ── the frame of a stream that starts at a
+-- a frame that passes every test has no fault
+pub frame-right : (width : ℕ) (part : List ℕ) → length part ≡ width + 2 → AllLow part → SeptetRight width part → SumRight width part → Clean (frameFault width part) (width + 2)
+frame-right width part long low septet sum = through (frame-whole width first (omega arith) septet sum) (omega arith)
+  where
+    first : FirstHigh part 0 (width + 2) (width + 2)
+    first = record { after = omega arith; before = omega arith; within = omega arith; low = λ i h above. low i (omega arith); high = λ short inside. absurd (omega arith) }
+
+-- ── the frames of a stream, from one on
 
 -- only the end cuts a frame off
 pub lesser-cut : {a b r : ℕ} → Lesser a b r → r < a → r ≡ b
@@ -78,32 +85,43 @@ partOf s a m = take m (drop a s)
 pub length-part : (s : List ℕ) (a m : ℕ) → a + m ≤ length s → length (partOf s a m) ≡ m
 length-part s a m inside = length-take-le m (drop a s) (simp length-drop (omega arith))
 
-module _ (s : List ℕ) (start width count a j : ℕ) (frames : FramesFrom s start width count) (at : a ≡ start + (width + 2) * j) (more : j < count) where
-  room : a + (width + 2) ≤ streamLength s
-  room = omega (arith, frames .total, mul-suc (width + 2) j, mul-le-mul-left (width + 2) more)
+module _ (s : List ℕ) (a width end : ℕ) (frames : FramesFrom s a width end) where
+  -- past the last frame
+  pub frames-end : end ≤ a → Reached (faultAt s) (streamLength s) (length s) 0 a
+  frames-end past =
+      let last : a ≡ streamLength s = omega (arith, frames .ends, frames .total) in
+      whole refl last (subst (Clean (faultAt s)) last (frames .clean)) (omega (arith, frames .there))
 
-  same : (m i : ℕ) → i < width + 2 → i < m → faultAt s (a + i) ≡ frameFault width (partOf s a m) i
-  same m i inside there =
-      frame-part width s a m i (omega (arith, frames .after))
-      (subst⁻¹ (λ (n : ℕ). ruleAt (kind s) (n + i) ≡ frameRule width i) at (frames .rules j i inside)) inside there
+  module _ (more : a < end) where
+    one-more : (n : ℕ) × (frames .count ≡ suc n)
+    one-more = (frames .count - 1, ⊎-elim (λ none. absurd (omega (arith, frames .ends, ap (λ (n : ℕ). (width + 2) * n) none, mul-zero (width + 2)))) (λ pos. omega arith) (eq-zero-or-pos (frames .count)))
 
-  module _ (clean : Clean (faultAt s) a) (m v k : ℕ) (inside : a + m ≤ length s) (reached : Reached (frameFault width (partOf s a m)) (width + 2) (length (partOf s a m)) v k) where
-    -- a fault, or the end
-    pub frames-stop : (m < width + 2 → a + m ≡ length s) → k < width + 2 → Reached (faultAt s) (streamLength s) (length s) v (a + k)
-    frames-stop cut short =
-        moved (faultAt s) (frameFault width (partOf s a m)) a (width + 2) (streamLength s) (length s) m v k clean
-        (λ i in-frame there. same m i in-frame there) room inside cut
+    room : a + (width + 2) ≤ end
+    room = omega (arith, frames .ends, ap (λ (n : ℕ). (width + 2) * n) (one-more .1), mul-suc (width + 2) (one-more .0))
+
+    same : (m i : ℕ) → i < width + 2 → i < m → faultAt s (a + i) ≡ frameFault width (partOf s a m) i
+    same m i inside there =
+        frame-part width s a m i (omega (arith, frames .after)) (rw (mul-zero, add-zero) at (frames .rules 0 i inside)) inside there
+
+    -- a fault in the first of them, or the end
+    pub frames-stop : (m v k : ℕ) → a + m ≤ length s → Reached (frameFault width (partOf s a m)) (width + 2) (length (partOf s a m)) v k
+        → (m < width + 2 → a + m ≡ length s) → k < width + 2 → Reached (faultAt s) (streamLength s) (length s) v (a + k)
+    frames-stop m v k inside reached cut short =
+        moved (faultAt s) (frameFault width (partOf s a m)) a (width + 2) (streamLength s) (length s) m v k (frames .clean)
+        (λ i in-frame there. same m i in-frame there) (omega (arith, room, frames .total)) inside cut
         (subst (λ (n : ℕ). Reached (frameFault width (partOf s a m)) (width + 2) n v k) (length-part s a m inside) reached)
         short
 
-    -- the next frame
-    pub frames-go-on : width + 2 ≤ m → width + 2 ≤ k → Clean (faultAt s) (a + (width + 2))
-    frames-go-on long past =
-        joined (faultAt s) (frameFault width (partOf s a m)) a (width + 2) clean (λ i in-frame. same m i in-frame (omega arith)) (through reached past)
-
--- past the last frame
-pub frames-end : (s : List ℕ) (start width count a j : ℕ) → FramesFrom s start width count → a ≡ start + (width + 2) * j → j ≡ count → Clean (faultAt s) a → a ≤ length s
-    → Reached (faultAt s) (streamLength s) (length s) 0 a
-frames-end s start width count a j frames at last clean inside =
-    let end : a ≡ streamLength s = at ∙ ap (λ (n : ℕ). start + (width + 2) * n) last ∙ sym (frames .total) in
-    whole refl end (subst (Clean (faultAt s)) end clean) (omega arith)
+    -- the first of them is right: what follows it
+    pub frames-next : (m : ℕ) → a + m ≤ length s → width + 2 ≤ m → Clean (frameFault width (partOf s a m)) (width + 2) → FramesFrom s (a + (width + 2)) width end
+    frames-next m inside long right =
+        record {
+          there = omega arith;
+          clean = joined (faultAt s) (frameFault width (partOf s a m)) a (width + 2) (frames .clean) (λ i in-frame. same m i in-frame (omega arith)) right;
+          after = omega arith;
+          narrow = frames .narrow;
+          count = one-more .0;
+          ends = omega (arith, frames .ends, ap (λ (n : ℕ). (width + 2) * n) (one-more .1), mul-suc (width + 2) (one-more .0));
+          total = frames .total;
+          rules = λ j i h. subst (λ (n : ℕ). ruleAt (kind s) (n + i) ≡ frameRule width i) (omega (arith, mul-suc (width + 2) j)) (frames .rules (suc j) i h);
+        }

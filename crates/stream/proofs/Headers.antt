@@ -1,5 +1,5 @@
 -- Laws of the header: its rules by the kind, and what a look at it has reached, at each place where it answers.
-use Prim.Native.Nat.{ℕ, _+_, _-_, _≤_, _<_}
+use Prim.Native.Nat.{ℕ, _+_, _*_, _-_, _≤_, _<_}
 use native.Mathlib.Omega.{arith}
 use native.Mathlib.Decide.{ℕ-discrete, decLt}
 use mathlib.Core.Path.{_≡_, refl, ap, _∙_, sym, subst⁻¹}
@@ -151,13 +151,15 @@ module _ (K : Kind) (at : ℕ) (ends : EndsAt K at) (s : List ℕ) (sort : Addre
   pub header-within : at + 1 ≤ streamLength s
   header-within = omega (arith, ends .ends, length-as s K (sort .is))
 
-  pub frames-from : {v k : ℕ} → Reached (faultAt s) (at + 1) (length s) v k → at + 1 ≤ k → frameWidth K ≤ 7 → FramesFrom s (at + 1) (frameWidth K) (frameCount K s)
+  pub frames-from : {v k : ℕ} → Reached (faultAt s) (at + 1) (length s) v k → at + 1 ≤ k → frameWidth K ≤ 7 → FramesFrom s (at + 1) (frameWidth K) (at + 1 + (frameWidth K + 2) * frameCount K s)
   frames-from reached long narrow =
       record {
         there = omega (arith, bounded reached);
         clean = through reached long;
         after = omega arith;
         narrow = narrow;
+        count = frameCount K s;
+        ends = refl;
         total = rw (← (ends .ends)) (length-as s K (sort .is));
         rules = λ j i h. rw (sort .is, ← (ends .ends)) (rule-frame K j i h);
       }

@@ -90,6 +90,12 @@ module _ {fault : ℕ → ℕ} {m n v k : ℕ} where
   through (ended z o clean below) long = absurd (omega arith)
   through (found e bad clean below inside) long = absurd (omega arith)
 
+  -- no fault stands before the one that is reached
+  pub clean-before : Reached fault m n v k → Clean fault k
+  clean-before (whole z o clean inside) = rw o clean
+  clean-before (ended z o clean below) = rw o clean
+  clean-before (found e bad clean below inside) = clean
+
   pub bounded : Reached fault m n v k → (k ≤ m) × (k ≤ n)
   bounded (whole z o clean inside) = omega arith
   bounded (ended z o clean below) = omega arith

@@ -36,6 +36,10 @@ frameFault width part i = choose (leb 0x80 (getD part i 0)) 2 (breach (frameRule
 abbrev pub ReachedFrame : ℕ → List ℕ → Validation → Type 0
 ReachedFrame width part r = Reached (frameFault width part) (width + 2) (length part) (number (r .verdict)) (r .offset)
 
+-- no byte of s is 0x80 or more
+abbrev pub AllLow : List ℕ → Type 0
+AllLow s = (i : ℕ) → i < length s → getD s i 0 < 0x80
+
 -- r is the first place from `from` on at which s ends or has a byte of 0x80 or more, or the limit
 pub record FirstHigh (s : List ℕ) (from limit r : ℕ) : Type 0 where
   pub after : from ≤ r
@@ -63,13 +67,15 @@ pub record ChecksumAt (s : List ℕ) (at : ℕ) : Type 0 where
   pub free : (i : ℕ) → i < at → ruleAt (kind s) i ≡ any
   pub sum : ruleAt (kind s) at ≡ headerSum (at - 1)
 
--- the header is right, and `count` frames of the given width follow it from `start` on
-pub record FramesFrom (s : List ℕ) (start width count : ℕ) : Type 0 where
+-- nothing is wrong up to `start`, and from there on frames of the given width reach up to `end`
+pub record FramesFrom (s : List ℕ) (start width end : ℕ) : Type 0 where
   pub there : start ≤ length s
   pub clean : Clean (faultAt s) start
   pub after : 0 < start
   pub narrow : width ≤ 7
-  pub total : streamLength s ≡ start + (width + 2) * count
+  pub count : ℕ
+  pub ends : end ≡ start + (width + 2) * count
+  pub total : streamLength s ≡ end
   pub rules : (j i : ℕ) → i < width + 2 → ruleAt (kind s) (start + (width + 2) * j + i) ≡ frameRule width i
 
 -- r is the lesser of two numbers

@@ -1,7 +1,9 @@
 // High bytes: 0x80 and above, which are a fault anywhere behind a stream's first byte.
 ghost use Prim.Native.Nat.{_≤_};
+ghost use mathlib.Core.Path.{_≡_};
+ghost use mathlib.Core.Bool.{true};
 ghost use lib.ListN.{length};
-ghost use Rattle.stream.specs.Stage.{FirstHigh, Lesser, StoppedAt};
+ghost use Rattle.stream.specs.Stage.{AllLow, FirstHigh, Lesser, StoppedAt};
 use crate::Validation;
 use crate::Verdict;
 use crate::at;
@@ -12,12 +14,24 @@ pub fn lesser(a: usize, b: usize) -> usize
     if a < b { a } else { b }
 }
 
-// The first place from `from` on at which `s` ends or has a high byte, or `limit`.
-pub fn first_high(s: &[u8], from: usize, limit: usize) -> usize
-    requires { ⌜ (from ≤ limit) × (from ≤ length (now s)) ⌝ }
-    ensures { λ r. ⌜ FirstHigh (now (s .entry)) from limit r ⌝ }
+// Whether every byte is low. The bytes are joined without a branch between them, for speed.
+pub fn all_low(s: &[u8]) -> bool
+    ensures { λ r. ⌜ (r ≡ true → AllLow (now (s .entry))) ⌝ }
 {
-    let end = lesser(limit, s.len());
+    let mut joined: u8 = 0;
+    let mut i = 0;
+    while i < s.len() {
+        joined = joined | s[i];
+        i += 1;
+    }
+    joined < 0x80
+}
+
+// The first place from `from` up to `end` that has a high byte, or `end`.
+fn search(s: &[u8], from: usize, end: usize) -> usize
+    requires { ⌜ (from ≤ end) × (end ≤ length (now s)) ⌝ }
+    ensures { λ r. ⌜ FirstHigh (now (s .entry)) from end r ⌝ }
+{
     let mut i = from;
     while i < end {
         if s[i] >= 0x80 {
@@ -26,6 +40,19 @@ pub fn first_high(s: &[u8], from: usize, limit: usize) -> usize
         i += 1;
     }
     i
+}
+
+// The first place from `from` on at which `s` ends or has a high byte, or `limit`.
+pub fn first_high(s: &[u8], from: usize, limit: usize) -> usize
+    requires { ⌜ (from ≤ limit) × (from ≤ length (now s)) ⌝ }
+    ensures { λ r. ⌜ FirstHigh (now (s .entry)) from limit r ⌝ }
+{
+    if limit <= s.len() {
+        if all_low(&s[from..limit]) {
+            return limit;
+        }
+    }
+    search(s, from, lesser(limit, s.len()))
 }
 
 // What stopped a search for high bytes at `stop`: a high byte, or the end.

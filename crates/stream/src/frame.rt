@@ -1,9 +1,13 @@
 // One frame: its payload bytes, their septet, and the checksum of both.
-ghost use Prim.Native.Nat.{_≤_};
-ghost use Rattle.stream.specs.Stage.{ReachedFrame, ReachedAll, FramesFrom};
+ghost use Prim.Native.Nat.{_+_, _≤_};
+ghost use mathlib.Core.Path.{_≡_};
+ghost use mathlib.Core.Bool.{true};
+ghost use lib.ListN.{length};
+ghost use Rattle.stream.specs.Stage.{Clean, ReachedFrame, ReachedAll, frameFault, FramesFrom};
 use crate::Validation;
 use crate::Verdict;
 use crate::at;
+use crate::bytes::all_low;
 use crate::bytes::first_high;
 use crate::bytes::lesser;
 use crate::bytes::stopped;
@@ -32,23 +36,56 @@ fn check(part: &[u8], width: usize) -> Validation
     at(Verdict::Whole, size)
 }
 
+// Whether a complete frame is right: only the good case matters, so that no byte needs a branch of its own.
+fn is_right(frame: &[u8], width: usize) -> bool
+    requires { ⌜ (width ≤ 7) × (length (now frame) ≡ width + 2) ⌝ }
+    ensures { λ r. ⌜ (r ≡ true → Clean (frameFault width (now (frame .entry))) (width + 2)) ⌝ }
+{
+    if !all_low(frame) {
+        return false;
+    }
+    if frame[width] >> width != 0 {
+        return false;
+    }
+    let end = width + 1;
+    checksum::checksum(&frame[0..end]) == frame[end]
+}
+
+// Passes over frames that are right, and returns where the first stands that isn't, or the end. `validate` tells what is wrong.
+pub fn skip_right(input: &[u8], start: usize, width: usize, end: usize) -> usize
+    requires { ⌜ FramesFrom (now input) start width end ⌝ }
+    ensures { λ r. ⌜ FramesFrom (now (input .entry)) r width end ⌝ }
+{
+    let size = width + 2;
+    let mut a = start;
+    while a < end {
+        let e = a + size;
+        if input.len() < e {
+            return a;
+        }
+        if !is_right(&input[a..e], width) {
+            return a;
+        }
+        a = e;
+    }
+    a
+}
+
 // The verdict on a stream whose header is right: each frame is handed on as the stretch of input it occupies.
-pub fn validate(input: &[u8], start: usize, width: usize, count: usize) -> Validation
-    requires { ⌜ FramesFrom (now input) start width count ⌝ }
+pub fn validate(input: &[u8], start: usize, width: usize, end: usize) -> Validation
+    requires { ⌜ FramesFrom (now input) start width end ⌝ }
     ensures { λ r. ⌜ ReachedAll (now (input .entry)) r ⌝ }
 {
     let size = width + 2;
     let mut a = start;
-    let mut j = 0;
-    while j < count {
+    while a < end {
         let e = lesser(a + size, input.len());
         let r = check(&input[a..e], width);
         let verdict = r.verdict;
         if r.offset < size {
             return at(verdict, a + r.offset);
         }
-        a = e;
-        j += 1;
+        a += size;
     }
     at(Verdict::Whole, a)
 }

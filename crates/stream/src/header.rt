@@ -8,6 +8,7 @@ use crate::Verdict;
 use crate::at;
 use crate::bytes::first_high;
 use crate::bytes::stopped;
+use crate::frame::skip_right;
 
 // The verdict on a header whose checksum stands at `place`.
 fn check(input: &[u8], place: usize) -> Validation
@@ -34,7 +35,8 @@ fn packet(input: &[u8]) -> Validation
     if r.offset < 10 {
         return r;
     }
-    crate::frame::validate(input, 10, 4, input[8] as usize)
+    let end = 10 + 6 * (input[8] as usize);
+    crate::frame::validate(input, skip_right(input, 10, 4, end), 4, end)
 }
 
 // The verdict on a telegram: frames of seven bytes, as many as bits 5-6 of the command say.
@@ -46,7 +48,8 @@ fn telegram(input: &[u8]) -> Validation
     if r.offset < 8 {
         return r;
     }
-    crate::frame::validate(input, 8, 7, input[6] as usize / 32 % 4)
+    let end = 8 + 9 * (input[6] as usize / 32 % 4);
+    crate::frame::validate(input, skip_right(input, 8, 7, end), 7, end)
 }
 
 // The verdict on a datagram: a septet of six bytes at 14, and the checksum of all before it at 15.

@@ -1,18 +1,30 @@
 -- `recording::search::first_whole` meets its contract: what is delivered from here on is what is delivered from the start on. Assumes nothing.
 use borrow.Author.Needs.{needs}
-use Prim.Native.Nat.{_-_}
+use Prim.Native.Nat.{ℕ, _+_, _-_, _<_, _≤_}
 use native.Mathlib.Omega.{arith}
 use mathlib.Core.Path.{_≡_, refl, sym, ap, _∙_}
-use lib.ListN.{length, drop}
+use mathlib.Core.List.{List}
+use native.Mathlib.Nat.{add-zero}
+use lib.ListN.{length, getD, drop, length-drop}
+use lib.Seq.{getD-drop}
 use Rattle.basics.proofs.Over.{part}
 use Rattle.stream.specs.Validation.{Answer, validationOf}
+use Rattle.stream.proofs.Offsets.{offset-within, offset-behind}
 use Rattle.recording.specs.Recording.{deliveriesAfter}
 use Rattle.recording.specs.Stage.{searched}
 use Rattle.recording.specs.declared.search.Search.the-variants.{At}
-use Rattle.recording.proofs.Deliveries.{after-end, after-on, after-here}
-use Rattle.recording.proofs.Reading.{after-sync}
+use Rattle.recording.proofs.Deliveries.{after-end, after-here}
+use Rattle.recording.proofs.Reading.{after-sync, after-fault}
 use Rattle.recording.proofs.search.first_whole.Statement.{statement}
 use Rattle.recording.proofs.search.first_whole.Tie as tie
+
+-- past a fault the search moves on, and not past the end
+fault-moves : (s : List ℕ) (r : ℕ) (a : Answer) → r < length s → getD s r 0 ≡ 0xAA → a ≡ validationOf (drop r s) → (0 < a .offset) × (r + a .offset ≤ length s)
+fault-moves s r a inside sync is =
+    let first : getD (drop r s) 0 0 ≡ 0xAA = getD-drop r s 0 0 ∙ rw add-zero sync in
+    let same = ap (λ (a : Answer). a .offset) is in
+    let long = length-drop r s in
+    (omega (arith, same, offset-behind (drop r s) (omega arith) first), omega (arith, same, long, offset-within (drop r s)))
 
 abbrev Inv-loop : tie.InvT-loop
 Inv-loop input start at₀ at = deliveriesAfter input at ≡ deliveriesAfter input start
@@ -42,19 +54,28 @@ number-requires : tie.Need-number-requires Inv-loop μ-loop
 number-requires c κs = search needs
 
 add-at : tie.Need-add-at Inv-loop μ-loop
-add-at c = search needs
+add-at c =
+    let s = c .before .before .before .before .before .before .before .before .before .args .input .now in
+    let r = c .before .before .before .before .before .before .next-sync .result in
+    let moved = fault-moves s r _ (omega arith) (c .before .before .before .before .before .before .next-sync .ensures .here (omega arith)) (rw part at (c .before .before .before .validate .ensures)) in
+    omega (arith, moved)
 
 loop-less : tie.Need-loop-less Inv-loop μ-loop
-loop-less c = search needs
+loop-less c =
+    let s = c .before .before .before .before .before .before .before .before .before .args .input .now in
+    let r = c .before .before .before .before .before .before .next-sync .result in
+    let moved = fault-moves s r _ (omega arith) (c .before .before .before .before .before .before .next-sync .ensures .here (omega arith)) (rw part at (c .before .before .before .validate .ensures)) in
+    omega (arith, moved, c .before .before .before .before .before .before .next-sync .ensures .after)
 
 loop-again : tie.Need-loop-again Inv-loop μ-loop
 loop-again c =
-    let s = c .before .before .before .before .before .before .before .before .args .input .now in
-    let r = c .before .before .before .before .before .next-sync .result in
-    let at = after-sync s (c .before .before .before .before .before .before .loop .at) r (c .before .before .before .before .before .next-sync .ensures) in
-    let answer = rw part at (c .before .before .validate .ensures) in
-    let number : c .before .number .result ≡ validationOf (drop r s) .number = c .before .number .ensures ∙ ap (λ (a : Answer). a .number) answer in
-    sym (at ∙ after-on s r (omega arith) (λ w. c .if2 .left (number ∙ w))) ∙ c .before .before .before .before .before .before .loop .inv
+    let s = c .before .before .before .before .before .before .before .before .before .args .input .now in
+    let r = c .before .before .before .before .before .before .next-sync .result in
+    let at = after-sync s (c .before .before .before .before .before .before .before .loop .at) r (c .before .before .before .before .before .before .next-sync .ensures) in
+    let answer = rw part at (c .before .before .before .validate .ensures) in
+    let number : c .before .before .number .result ≡ validationOf (drop r s) .number = c .before .before .number .ensures ∙ ap (λ (a : Answer). a .number) answer in
+    let on = after-fault s r (λ w. c .before .if2 .left (number ∙ w)) in
+    ap (λ (a : Answer). deliveriesAfter s (r + a .offset)) answer ∙ sym (at ∙ on) ∙ c .before .before .before .before .before .before .before .loop .inv
 
 returns : tie.Need-returns Inv-loop μ-loop
 returns c =

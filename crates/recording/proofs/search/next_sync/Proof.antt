@@ -21,7 +21,7 @@ shared-slice-read-if1 : tie.Need-shared-slice-read-if1 Inv-loop μ-loop
 shared-slice-read-if1 c = search needs
 
 returns : tie.Need-returns Inv-loop μ-loop
-returns c = record { after = omega arith; passed = c .before .before .before .loop .inv .1 }
+returns c = record { after = omega arith; here = λ inside. c .if1 .taken; passed = c .before .before .before .loop .inv .1 }
 
 add-at : tie.Need-add-at Inv-loop μ-loop
 add-at c = search needs
@@ -33,7 +33,7 @@ loop-again : tie.Need-loop-again Inv-loop μ-loop
 loop-again c = (omega arith, below-more _ _ (c .before .before .before .loop .inv .1) (λ above inside e. c .if1 .left e))
 
 returns-2 : tie.Need-returns-2 Inv-loop μ-loop
-returns-2 c = record { after = omega arith; passed = c .before .loop .inv .1 }
+returns-2 c = record { after = omega arith; here = λ inside. absurd (omega arith); passed = c .before .loop .inv .1 }
 
 pub next-sync-spec : {M : Type 1} → statement M
 next-sync-spec =

@@ -1,68 +1,76 @@
--- `stream::bytes::first_high` meets its contract: every byte that the loop passed is low. Assumes nothing.
+-- `stream::bytes::first_high` meets its contract: where a joined look finds no high byte, none is there. Assumes nothing.
 use borrow.Author.Needs.{needs}
-use borrow.Author.Count.{below-more}
-use Prim.Native.Nat.{ℕ, _≤_, _<_, _+_, _-_}
+use Prim.Native.Nat.{ℕ, _+_, _-_, _≤_, _<_}
 use native.Mathlib.Omega.{arith}
-use lib.ListN.{length, getD}
+use mathlib.Core.List.{List}
+use mathlib.Core.Path.{_≡_, sym, ap, _∙_}
+use lib.ListN.{length, getD, take, drop, length-drop}
+use lib.Seq.{getD-take, getD-drop, length-take-le}
+use Rattle.stream.specs.Stage.{AllLow, FirstHigh, Lesser}
 use Rattle.stream.proofs.bytes.first_high.Statement.{statement}
 use Rattle.stream.proofs.bytes.first_high.Tie as tie
 
-abbrev Inv-loop : tie.InvT-loop
-Inv-loop s from limit end i₀ i = (from ≤ i) × (i ≤ limit) × (i ≤ length s) × ((k : ℕ) → k < i → from ≤ k → getD s k 0 < 0x80)
+-- a part without high bytes
+part-low : (s : List ℕ) (from limit : ℕ) → limit ≤ length s → AllLow (take (limit - from) (drop from s)) → (i : ℕ) → i < limit → from ≤ i → getD s i 0 < 0x80
+part-low s from limit inside low i below above =
+    let held = length-take-le (limit - from) (drop from s) (omega (arith, length-drop from s)) in
+    let same : getD (take (limit - from) (drop from s)) (i - from) 0 ≡ getD s i 0 =
+    getD-take (limit - from) (drop from s) (i - from) 0 (omega arith)
+    ∙ getD-drop from s (i - from) 0
+    ∙ ap (λ (k : ℕ). getD s k 0) (omega arith) in
+    omega (arith, same, low (i - from) (omega arith))
 
-abbrev μ-loop : tie.MeasureT-loop
-μ-loop s from limit end i₀ i = end - i
+-- what is found up to the end or the limit, whichever comes first
+up-to-lesser : {s : List ℕ} {from limit end r : ℕ} → Lesser limit (length s) end → FirstHigh s from end r → FirstHigh s from limit r
+up-to-lesser {r} lesser first =
+    record {
+      after = first .after;
+      before = omega (arith, first .before, lesser .left);
+      within = first .within;
+      low = first .low;
+      high = λ short inside. first .high (omega (arith, lesser .most (r + 1) (omega arith) (omega arith))) inside;
+    }
 
-lesser-requires : tie.Need-lesser-requires Inv-loop μ-loop
-lesser-requires c κs = search needs
+sub-all-low : tie.Need-sub-all-low
+sub-all-low c = search needs
 
-loop-holds : tie.Need-loop-holds Inv-loop μ-loop
-loop-holds c = (omega arith, omega arith, omega arith, λ k below above. omega arith)
+part-all-low-start : tie.Need-part-all-low-start
+part-all-low-start c = search needs
 
-shared-slice-read-if1 : tie.Need-shared-slice-read-if1 Inv-loop μ-loop
-shared-slice-read-if1 c = omega arith
+part-all-low-end : tie.Need-part-all-low-end
+part-all-low-end c = search needs
 
-returns : tie.Need-returns Inv-loop μ-loop
+all-low-requires : tie.Need-all-low-requires
+all-low-requires c κs = search needs
+
+returns : tie.Need-returns
 returns c =
     record {
       after = omega arith;
       before = omega arith;
       within = omega arith;
-      low = c .before .before .before .loop .inv .3;
-      high = λ short inside. c .if1 .taken;
+      low = part-low _ _ _ (omega arith) (c .before .all-low .ensures (c .if2 .taken));
+      high = λ short inside. absurd (omega arith);
     }
 
-add-i : tie.Need-add-i Inv-loop μ-loop
-add-i c = omega arith
+lesser-requires : tie.Need-lesser-requires
+lesser-requires c κs = search needs
 
-loop-less : tie.Need-loop-less Inv-loop μ-loop
-loop-less c = omega arith
+search-requires : tie.Need-search-requires
+search-requires c κs = (c .lesser .ensures .most _ (omega arith) (omega arith), c .lesser .ensures .right)
 
-loop-again : tie.Need-loop-again Inv-loop μ-loop
-loop-again c =
-    (omega arith, omega arith, omega arith, below-more _ _ (c .before .before .before .loop .inv .3) (λ above. c .if1 .left))
-
-returns-2 : tie.Need-returns-2 Inv-loop μ-loop
-returns-2 c =
-    record {
-      after = omega arith;
-      before = omega arith;
-      within = omega arith;
-      low = c .before .loop .inv .3;
-      high = λ short inside. absurd (omega (arith, c .before .before .lesser .ensures .most (c .before .loop .i + 1) (omega arith) (omega arith)));
-    }
+returns-2 : tie.Need-returns-2
+returns-2 c = up-to-lesser (c .before .lesser .ensures) (c .search .ensures)
 
 pub first-high-spec : {M : Type 1} → statement M
 first-high-spec =
     tie.close
     (tie.spec
-    Inv-loop
-    μ-loop
-    lesser-requires
-    loop-holds
-    shared-slice-read-if1
+    sub-all-low
+    part-all-low-start
+    part-all-low-end
+    all-low-requires
     returns
-    add-i
-    loop-less
-    loop-again
+    lesser-requires
+    search-requires
     returns-2)

@@ -1,0 +1,70 @@
+-- `stream::frame::is_right` meets its contract: where all its tests pass, the laws of one frame say that it is whole. Assumes nothing.
+use borrow.Author.Needs.{needs}
+use native.Mathlib.Omega.{arith}
+use native.Mathlib.Nat.{sub-zero}
+use mathlib.Core.Path.{sym, _∙_}
+use mathlib.Core.Bool.{true≢false}
+use borrow.Author.Tests.{eqb-true, not-false}
+use Rattle.stream.proofs.Frames.{frame-right}
+use Rattle.stream.proofs.frame.is_right.Statement.{statement}
+use Rattle.stream.proofs.frame.is_right.Tie as tie
+
+all-low-requires : tie.Need-all-low-requires
+all-low-requires c κs = search needs
+
+returns : tie.Need-returns
+returns c e = absurd (true≢false (sym e))
+
+shared-slice-read-if2 : tie.Need-shared-slice-read-if2
+shared-slice-read-if2 c = search needs
+
+cast-if2 : tie.Need-cast-if2
+cast-if2 c = search needs
+
+shr-if2 : tie.Need-shr-if2
+shr-if2 c = search needs
+
+returns-2 : tie.Need-returns-2
+returns-2 c e = absurd (true≢false (sym e))
+
+add-end : tie.Need-add-end
+add-end c = search needs
+
+sub-checksum : tie.Need-sub-checksum
+sub-checksum c = search needs
+
+part-checksum-start : tie.Need-part-checksum-start
+part-checksum-start c = search needs
+
+part-checksum-end : tie.Need-part-checksum-end
+part-checksum-end c = search needs
+
+checksum-requires : tie.Need-checksum-requires
+checksum-requires c κs = search needs
+
+shared-slice-read-result : tie.Need-shared-slice-read-result
+shared-slice-read-result c = search needs
+
+returns-3 : tie.Need-returns-3
+returns-3 c e =
+    let start = c .before .before .before .before .before .before .before .before in
+    let sum = rw sub-zero at (c .before .checksum .ensures) in
+    frame-right (start .args .width) (start .args .frame .now) (start .pre .1) (c .before .before .before .before .before .before .all-low .ensures (not-false _ (c .before .before .before .before .before .if1 .left))) (c .before .before .before .if2 .left) (sym (eqb-true _ _ e) ∙ sum)
+
+pub is-right-spec : {M : Type 1} → statement M
+is-right-spec =
+    tie.close
+    (tie.spec
+    all-low-requires
+    returns
+    shared-slice-read-if2
+    cast-if2
+    shr-if2
+    returns-2
+    add-end
+    sub-checksum
+    part-checksum-start
+    part-checksum-end
+    checksum-requires
+    shared-slice-read-result
+    returns-3)
