@@ -3,8 +3,8 @@
  * C99 and C++. Link with target/staticlib/libvbus.a (x86-64, System V calling convention).
  *
  * Memory. No heap, no globals, nothing kept between calls: every function may be called from several threads and from
- * signal handlers at once. The archive needs nothing from outside but memset.
- * Stack: at most 752 bytes (vbus_normalize), but up to 6,360 for the four section functions, which call themselves once
+ * signal handlers at once. The archive needs nothing from outside.
+ * Stack: at most 185 bytes (vbus_next), but up to 6,360 for the four section functions, which call themselves once
  * a section: 48 bytes each, 127 sections at most. tests/stack measures it. docs/BENCHMARKS.md has the speeds.
  *
  * Pointers. A pointer comes with the number of bytes behind it, and nothing beyond them is read or written.
