@@ -17,6 +17,7 @@ use Rattle.recording.proofs.Deliveries.{FirstAfter, none, some, first-after, wh
 use Rattle.recording.proofs.Nexts.{refusal-none, next-answers, output-written, next-first}
 use Rattle.listing.specs.declared.Listed.{Listed}
 use Rattle.listing.specs.declared.Listed.the-variants.{Written, OutputTooShort}
+use Rattle.basics.specs.Output as outputs
 use Rattle.listing.specs.Line as lines
 use Rattle.listing.specs.Line.{lineOf, listingOf, answerOf, listedOf}
 use Rattle.listing.proofs.Lines.{payload-most, line-most}
@@ -101,12 +102,12 @@ module _ (r : Record) (writable : Writable r) (out : List ℕ) (room : 1037 ≤ 
   is = said ∙ listed r out fits
 
   pub never-short : a ≡ OutputTooShort → ⊥
-  never-short e = let z : _≡_ {A = ℕ} 5 0 = ap (λ (l : Listed). answerOf l .number) (sym e) ∙ ap (λ (x : lines.Answer). x .number) is in omega arith
+  never-short e = let z : _≡_ {A = ℕ} 5 0 = ap (λ (l : Listed). answerOf l .number) (sym e) ∙ ap (λ (x : outputs.Answer). x .number) is in omega arith
 
   pub line-taken : (size : ℕ) (after : List ℕ) → a ≡ Written size → after ≡ lines.outputAfter r out
       → (size ≤ length after) × (take size after ≡ lineOf r)
   line-taken size after e left =
       let sized : length (lineOf r) ≡ size =
-      sym (ap (λ (l : Listed). answerOf l .length) (sym e) ∙ ap (λ (x : lines.Answer). x .length) is) in
+      sym (ap (λ (l : Listed). answerOf l .length) (sym e) ∙ ap (λ (x : outputs.Answer). x .length) is) in
       let put : after ≡ over (lineOf r) out = left ∙ output-line r out fits in
       (omega (arith, simp length-append at (ap length put)), ap (take size) put ∙ take-at (lineOf r) (drop (length (lineOf r)) out) size sized)

@@ -2,10 +2,10 @@
 use Prim.Native.Nat.{ℕ, _+_, _/_, _%_}
 use mathlib.Core.Bool.{Bool, true, false}
 use mathlib.Core.List.{List, [], _∷_, _++_}
-use lib.Dec.{ltb, eqb}
+use lib.Dec.{ltb}
 use lib.ListN.{length}
-use Rattle.basics.specs.Bytes.{over}
 use Rattle.basics.specs.Choice.{choose, first}
+use Rattle.basics.specs.Output.{Answer, tooShort, answered, outputWith}
 use Rattle.stream.specs.Layout.{kindOf}
 use Rattle.stream.specs.declared.Kind.{Kind}
 use Rattle.stream.specs.declared.Kind.the-variants.{Packet, Datagram, Telegram, Unknown}
@@ -80,11 +80,6 @@ abbrev pub number : Listed → ℕ
 number (Written n) = 0
 number OutputTooShort = 5
 
--- an answer in the paper's terms: its number, and the line's length or, refused, zero
-pub record Answer : Type 0 where
-  pub number : ℕ
-  pub length : ℕ
-
 abbrev pub lengthIn : Listed → ℕ
 lengthIn (Written n) = n
 lengthIn OutputTooShort = 0
@@ -94,11 +89,10 @@ answerOf a = record { number = number a; length = lengthIn a }
 
 -- 5: the output is shorter than the line
 unfoldable pub refusal : Record → ℕ → ℕ
-refusal r room = first ((ltb room (length (lineOf r)), 5) ∷ [])
+refusal r room = first (tooShort room (lineOf r) ∷ [])
 
 abbrev pub listedOf : Record → ℕ → Answer
-listedOf r room = record { number = refusal r room; length = choose (eqb (refusal r room) 0) (length (lineOf r)) 0 }
+listedOf r room = answered (refusal r room) (lineOf r)
 
--- the output afterwards: the line over its start or, refused, every byte as it was
 abbrev pub outputAfter : Record → List ℕ → List ℕ
-outputAfter r out = choose (eqb (refusal r (length out)) 0) (over (lineOf r) out) out
+outputAfter r out = outputWith (refusal r (length out)) (lineOf r) out

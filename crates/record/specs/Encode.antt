@@ -5,8 +5,9 @@ use mathlib.Core.Bool.{Bool, true, false, _||_, not}
 use mathlib.Core.List.{List, [], _∷_, _++_}
 use lib.Dec.{ltb, eqb}
 use lib.ListN.{length}
-use Rattle.basics.specs.Bytes.{AllBelow, over}
-use Rattle.basics.specs.Choice.{choose, first}
+use Rattle.basics.specs.Bytes.{AllBelow}
+use Rattle.basics.specs.Choice.{first}
+use Rattle.basics.specs.Output.{Answer, tooShort, answered, outputWith}
 use Rattle.basics.specs.Words.{highWord}
 use Rattle.stream.specs.Layout.{kindOf, payloadLength}
 use Rattle.stream.specs.declared.Kind.{Kind}
@@ -23,11 +24,6 @@ number HighAddress = 2
 number HighCommand = 3
 number WrongLength = 4
 number OutputTooShort = 5
-
--- an answer in the paper's terms: its number, and the stream's length or, refused, zero
-pub record Answer : Type 0 where
-  pub number : ℕ
-  pub length : ℕ
 
 abbrev pub lengthIn : Encoded → ℕ
 lengthIn (Written n) = n
@@ -86,11 +82,10 @@ pub record Writable (r : Record) : Type 0 where
 
 -- the refusal for an output of the given room, or 0; the last line is 5: the output is shorter than the stream
 unfoldable pub refusal : Record → ℕ → ℕ
-refusal r room = first (linesAs (kindOf (r .header .version)) r ++ ((ltb room (length (streamOf r)), 5) ∷ []))
+refusal r room = first (linesAs (kindOf (r .header .version)) r ++ (tooShort room (streamOf r) ∷ []))
 
 abbrev pub encodingOf : Record → ℕ → Answer
-encodingOf r room = record { number = refusal r room; length = choose (eqb (refusal r room) 0) (length (streamOf r)) 0 }
+encodingOf r room = answered (refusal r room) (streamOf r)
 
--- the output afterwards: the stream over its start or, refused, every byte as it was
 abbrev pub outputAfter : Record → List ℕ → List ℕ
-outputAfter r out = choose (eqb (refusal r (length out)) 0) (over (streamOf r) out) out
+outputAfter r out = outputWith (refusal r (length out)) (streamOf r) out

@@ -10,7 +10,8 @@ use lib.ListN.{length, take, drop}
 use lib.Seq.{take-append-seam}
 use Rattle.basics.specs.Bytes.{over}
 use Rattle.basics.specs.Choice.{choose}
-use Rattle.recording.specs.Normalize.{Answer, normalized, refusal, normalizingOf, outputAfter}
+use Rattle.basics.specs.Output.{Answer}
+use Rattle.recording.specs.Normalize.{normalized, refusal, normalizingOf, outputAfter}
 use Rattle.recording.specs.Recording.{records}
 use Rattle.recording.proofs.Normalizing.{records-normalized, normalized-again, normalized-same}
 

@@ -4,8 +4,8 @@ use mathlib.Core.Bool.{Bool, true, false}
 use mathlib.Core.List.{List, [], _∷_}
 use lib.Dec.{ltb, eqb}
 use lib.ListN.{length}
-use Rattle.basics.specs.Bytes.{over}
 use Rattle.basics.specs.Choice.{choose, first}
+use Rattle.basics.specs.Output.{tooShort, outputWith}
 use Rattle.record.specs.declared.Header.{Header}
 use Rattle.recording.specs.Recording.{Delivery, deliveriesAfter}
 use Rattle.recording.specs.declared.NextRecord.{NextRecord}
@@ -59,12 +59,11 @@ payloadOf (d ∷ rest) = d .contents .payload
 -- 6: the starting place is greater than the input length; then 5: the output is shorter than the payload
 unfoldable pub refusal : List ℕ → ℕ → ℕ → ℕ
 refusal s start room =
-    first ((ltb (length s) start, 6) ∷ (ltb room (length (payloadOf (deliveriesAfter s start))), 5) ∷ [])
+    first ((ltb (length s) start, 6) ∷ tooShort room (payloadOf (deliveriesAfter s start)) ∷ [])
 
 abbrev pub nextOf : List ℕ → ℕ → ℕ → Answer
 nextOf s start room =
     choose (eqb (refusal s start room) 0) (firstOf (deliveriesAfter s start)) (without (refusal s start room))
 
--- the output afterwards: the payload over its start or, refused, every byte as it was
 abbrev pub outputAfter : List ℕ → ℕ → List ℕ → List ℕ
-outputAfter s start out = choose (eqb (refusal s start (length out)) 0) (over (payloadOf (deliveriesAfter s start)) out) out
+outputAfter s start out = outputWith (refusal s start (length out)) (payloadOf (deliveriesAfter s start)) out

@@ -1,10 +1,9 @@
 -- A recording normalized: document 01's *wash*, with its refusal 5.
 use Prim.Native.Nat.{ℕ}
 use mathlib.Core.List.{List, [], _∷_, _++_}
-use lib.Dec.{ltb, eqb}
 use lib.ListN.{length}
-use Rattle.basics.specs.Bytes.{over}
-use Rattle.basics.specs.Choice.{choose, first}
+use Rattle.basics.specs.Choice.{first}
+use Rattle.basics.specs.Output.{Answer, tooShort, answered, outputWith}
 use Rattle.record.specs.Record.{Record, streamOf}
 use Rattle.recording.specs.Recording.{records}
 use Rattle.recording.specs.declared.Normalized.{Normalized}
@@ -24,11 +23,6 @@ abbrev pub number : Normalized → ℕ
 number (Written n) = 0
 number OutputTooShort = 5
 
--- an answer in the paper's terms: its number, and how many bytes were written or, refused, zero
-pub record Answer : Type 0 where
-  pub number : ℕ
-  pub length : ℕ
-
 abbrev pub lengthIn : Normalized → ℕ
 lengthIn (Written n) = n
 lengthIn OutputTooShort = 0
@@ -38,11 +32,10 @@ answerOf e = record { number = number e; length = lengthIn e }
 
 -- 5: the output is shorter than the normalized recording
 unfoldable pub refusal : List ℕ → ℕ → ℕ
-refusal s room = first ((ltb room (length (normalized s)), 5) ∷ [])
+refusal s room = first (tooShort room (normalized s) ∷ [])
 
 abbrev pub normalizingOf : List ℕ → ℕ → Answer
-normalizingOf s room = record { number = refusal s room; length = choose (eqb (refusal s room) 0) (length (normalized s)) 0 }
+normalizingOf s room = answered (refusal s room) (normalized s)
 
--- the output afterwards: the normalized recording over its start or, refused, every byte as it was
 abbrev pub outputAfter : List ℕ → List ℕ → List ℕ
-outputAfter s out = choose (eqb (refusal s (length out)) 0) (over (normalized s) out) out
+outputAfter s out = outputWith (refusal s (length out)) (normalized s) out

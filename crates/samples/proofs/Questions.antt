@@ -4,6 +4,7 @@ use mathlib.Core.Bool.{Bool, true, false}
 use mathlib.Core.List.{List, [], _∷_, _++_}
 use lib.IntN.{ℤ, pos, negsuc}
 use lib.ListN.{replicate}
+use Rattle.basics.specs.Output as Outputs
 use Rattle.checksum.specs.Checksum.{checksumOf}
 use Rattle.septet.specs.Block.{extracted, injected}
 use Rattle.septet.specs.declared.Block.{Block}
@@ -71,14 +72,11 @@ boolTold false = 0
 abbrev validationTold : Verdicts.Answer → List ℕ
 validationTold a = a .number ∷ a .offset ∷ []
 
-abbrev encodedTold : Encodings.Answer → List ℕ
-encodedTold a = a .number ∷ a .length ∷ []
+abbrev writtenTold : Outputs.Answer → List ℕ
+writtenTold a = a .number ∷ a .length ∷ []
 
 abbrev nextTold : Nexts.Answer → List ℕ
 nextTold a = a .number ∷ boolTold (a .found) ∷ a .place ∷ a .length ∷ (headerTold (a .header) ++ (a .payload ∷ []))
-
-abbrev normalizedTold : Normals.Answer → List ℕ
-normalizedTold a = a .number ∷ a .length ∷ []
 
 abbrev countTold : Count → List ℕ
 countTold c = c .number ∷ c .count ∷ []
@@ -93,16 +91,16 @@ answer (inject block n septet) = blockTold (injected block n septet)
 answer (validate s) = validationTold (validationOf s)
 answer (read s) = headerTold (recordOf s .header) ++ recordOf s .payload
 answer (carry r) = unwritable r ∷ []
-answer (encode r room) = encodedTold (encodingOf r room) ++ Encodings.outputAfter r (untouched room)
+answer (encode r room) = writtenTold (encodingOf r room) ++ Encodings.outputAfter r (untouched room)
 answer (value payload) = signedTold (valueOf payload)
 answer (next s start room) = nextTold (nextOf s start room) ++ Nexts.outputAfter s start (untouched room)
-answer (normalize s room) = normalizedTold (normalizingOf s room) ++ Normals.outputAfter s (untouched room)
+answer (normalize s room) = writtenTold (normalizingOf s room) ++ Normals.outputAfter s (untouched room)
 answer (sections h payload) = countTold (sectionCount h payload)
 answer (section h payload k) = partTold (sectionFound h payload k) ++ sectionShown h payload k
 answer (elements h payload k) = countTold (elementCount h payload k)
 answer (element h payload k i) = partTold (elementFound h payload k i) ++ elementShown h payload k i
 answer (temperature bytes) = signedTold (temperatureOf bytes)
 answer (validation r) = Verdicts.number (r .verdict) ∷ validationTold (Verdicts.answerOf r)
-answer (encoded e) = Encodings.number e ∷ encodedTold (Encodings.answerOf e)
+answer (encoded e) = Encodings.number e ∷ writtenTold (Encodings.answerOf e)
 answer (nextRecord r) = Nexts.number r ∷ nextTold (Nexts.answerOf r)
-answer (normalized r) = Normals.number r ∷ normalizedTold (Normals.answerOf r)
+answer (normalized r) = Normals.number r ∷ writtenTold (Normals.answerOf r)

@@ -1,13 +1,12 @@
 -- The answers of the proved crates as the C library's structs, field by field. What the fields are is defined there.
 use Prim.Native.Nat.{ℕ}
 use mathlib.Core.List.{List}
+use Rattle.basics.specs.Output as output
 use Rattle.septet.specs.declared.Block.{Block}
 use Rattle.stream.specs.Validation as validation
 use Rattle.record.specs.Record.{Record}
-use Rattle.record.specs.Encode as encoding
 use Rattle.record.specs.declared.Header.{Header}
 use Rattle.recording.specs.Next as nexts
-use Rattle.recording.specs.Normalize as normalizing
 use Rattle.block.specs.declared.Count.{Count}
 use Rattle.block.specs.declared.Part.{Part}
 use Rattle.vbus.specs.declared.VbusHeader.{VbusHeader}
@@ -37,11 +36,8 @@ abbrev pub foundOf : nexts.Answer → VbusFound
 foundOf a =
     record { number = a .number; found = a .found; place = a .place; length = a .length; header = headerFor (a .header); payload = a .payload }
 
-abbrev pub encodedOf : encoding.Answer → VbusWritten
-encodedOf a = record { number = a .number; length = a .length }
-
-abbrev pub normalizedOf : normalizing.Answer → VbusWritten
-normalizedOf a = record { number = a .number; length = a .length }
+abbrev pub writtenOf : output.Answer → VbusWritten
+writtenOf a = record { number = a .number; length = a .length }
 
 abbrev pub countOf : Count → VbusCount
 countOf a = record { number = a .number; count = a .count }

@@ -9,7 +9,7 @@ ghost use Rattle.record.specs.Value.{valueOf};
 ghost use Rattle.recording.specs.Next as nexts;
 ghost use Rattle.recording.specs.Normalize as normalizings;
 ghost use Rattle.block.specs.Answer.{sectionCount, sectionFound, elementCount, elementFound};
-ghost use Rattle.vbus.specs.Structs.{headerOf, headerFor, recordWith, septetsOf, verdictOf, foundOf, encodedOf, normalizedOf, countOf, partOf};
+ghost use Rattle.vbus.specs.Structs.{headerOf, headerFor, recordWith, septetsOf, verdictOf, foundOf, writtenOf, countOf, partOf};
 use block::Count;
 use block::Part;
 use record::Encoded;
@@ -151,7 +151,7 @@ fn found_of(next: NextRecord) -> VbusFound
 }
 
 fn encoded_of(encoded: Encoded) -> VbusWritten
-    ensures { λ r. ⌜ r ≡ encodedOf (encodings.answerOf encoded) ⌝ }
+    ensures { λ r. ⌜ r ≡ writtenOf (encodings.answerOf encoded) ⌝ }
 {
     match encoded {
         Encoded::Written(length) => VbusWritten { number: 0, length },
@@ -163,7 +163,7 @@ fn encoded_of(encoded: Encoded) -> VbusWritten
 }
 
 fn normalized_of(normalized: Normalized) -> VbusWritten
-    ensures { λ r. ⌜ r ≡ normalizedOf (normalizings.answerOf normalized) ⌝ }
+    ensures { λ r. ⌜ r ≡ writtenOf (normalizings.answerOf normalized) ⌝ }
 {
     match normalized {
         Normalized::Written(length) => VbusWritten { number: 0, length },
@@ -238,7 +238,7 @@ pub extern "C" fn vbus_next(input: &[u8], start: usize, payload: &mut [u8]) -> V
 // Writes the stream of a record to the start of `out`. A refusal leaves every byte of `out` as it was.
 #[no_mangle]
 pub extern "C" fn vbus_encode(header: VbusHeader, payload: &[u8], out: &mut [u8]) -> VbusWritten
-    ensures { λ r. ⌜ r ≡ encodedOf (encodings.encodingOf (recordWith header (now (payload .entry))) (length (now (out .entry)))) ⌝ }
+    ensures { λ r. ⌜ r ≡ writtenOf (encodings.encodingOf (recordWith header (now (payload .entry))) (length (now (out .entry)))) ⌝ }
     ensures { λ r. ⌜ now (out .exit) ≡ encodings.outputAfter (recordWith header (now (payload .entry))) (now (out .entry)) ⌝ }
 {
     encoded_of(record::encode(header_of(header), payload, out))
@@ -247,7 +247,7 @@ pub extern "C" fn vbus_encode(header: VbusHeader, payload: &[u8], out: &mut [u8]
 // Writes the records of a recording again, end to end, to the start of `out`. A refusal leaves every byte of `out` as it was.
 #[no_mangle]
 pub extern "C" fn vbus_normalize(input: &[u8], out: &mut [u8]) -> VbusWritten
-    ensures { λ r. ⌜ r ≡ normalizedOf (normalizings.normalizingOf (now (input .entry)) (length (now (out .entry)))) ⌝ }
+    ensures { λ r. ⌜ r ≡ writtenOf (normalizings.normalizingOf (now (input .entry)) (length (now (out .entry)))) ⌝ }
     ensures { λ r. ⌜ now (out .exit) ≡ normalizings.outputAfter (now (input .entry)) (now (out .entry)) ⌝ }
 {
     normalized_of(recording::normalize(input, out))

@@ -7,7 +7,7 @@ use Rattle.record.proofs.Encoded.{the-type}
 use Rattle.record.specs.Encode.{answerOf, lengthIn}
 use Rattle.record.specs.declared.Encoded.{Encoded}
 use Rattle.record.specs.declared.Encoded.the-variants.{Written, UnknownVersion, HighAddress, HighCommand, WrongLength, OutputTooShort}
-use Rattle.vbus.specs.Structs.{encodedOf}
+use Rattle.vbus.specs.Structs.{writtenOf}
 use borrow.Author.Needs.{needs}
 use Rattle.vbus.proofs.encoded_of.Statement.{statement}
 use Rattle.vbus.proofs.encoded_of.Tie as tie
@@ -27,7 +27,7 @@ number-requires : tie.Need-number-requires
 number-requires c κs = search needs
 
 returns : tie.Need-returns
-returns c = ap (λ (e : Encoded). encodedOf (answerOf e)) (sym (c .before .encoded .given .1))
+returns c = ap (λ (e : Encoded). writtenOf (answerOf e)) (sym (c .before .encoded .given .1))
 
 returns-2 : tie.Need-returns-2
 returns-2 c = rw (c .number .ensures, no-length _ (c .before .match .keys2)) refl

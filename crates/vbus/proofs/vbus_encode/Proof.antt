@@ -1,6 +1,6 @@
 -- `vbus_encode` meets its contract, by that of `record::encode`. Assumes nothing.
 use mathlib.Core.Path.{ap, sym, _∙_}
-use Rattle.vbus.specs.Structs.{encodedOf}
+use Rattle.vbus.specs.Structs.{writtenOf}
 use borrow.Author.Needs.{needs}
 use Rattle.vbus.proofs.vbus_encode.Statement.{statement}
 use Rattle.vbus.proofs.vbus_encode.Tie as tie
@@ -21,7 +21,7 @@ returns : tie.Need-returns
 returns c =
     let header = c .before .before .before .before .before .header-of in
     let encode = c .before .before .before .encode in
-    rw (sym (header .ensures)) (c .encoded-of .ensures ∙ ap encodedOf (encode .ensures .0), encode .ensures .1)
+    rw (sym (header .ensures)) (c .encoded-of .ensures ∙ ap writtenOf (encode .ensures .0), encode .ensures .1)
 
 pub vbus-encode-spec : {M : Type 1} → statement M
 vbus-encode-spec =

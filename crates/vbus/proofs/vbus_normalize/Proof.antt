@@ -1,6 +1,6 @@
 -- `vbus_normalize` meets its contract, by that of `recording::normalize`. Assumes nothing.
 use mathlib.Core.Path.{ap, _∙_}
-use Rattle.vbus.specs.Structs.{normalizedOf}
+use Rattle.vbus.specs.Structs.{writtenOf}
 use borrow.Author.Needs.{needs}
 use Rattle.vbus.proofs.vbus_normalize.Statement.{statement}
 use Rattle.vbus.proofs.vbus_normalize.Tie as tie
@@ -17,7 +17,7 @@ same-length c = search needs
 returns : tie.Need-returns
 returns c =
     let normalize = c .before .before .before .normalize in
-    (c .normalized-of .ensures ∙ ap normalizedOf (normalize .ensures .0), normalize .ensures .1)
+    (c .normalized-of .ensures ∙ ap writtenOf (normalize .ensures .0), normalize .ensures .1)
 
 pub vbus-normalize-spec : {M : Type 1} → statement M
 vbus-normalize-spec =
