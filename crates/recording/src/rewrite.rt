@@ -37,9 +37,10 @@ pub fn all(input: &[u8], out: &mut [u8]) -> usize
         match first_whole(input, at) {
             Search::At(span) => {
                 let place = span.place;
-                at = place + span.length;
+                let length = span.length;
+                at = place + length;
                 bytes::copy(&input[place..at], &mut out[to..]);
-                to += span.length;
+                to += length;
             }
             Search::Nothing => break to,
         }

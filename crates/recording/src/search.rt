@@ -40,12 +40,13 @@ pub fn first_whole(input: &[u8], start: usize) -> Search
         }
         let validation = stream::validate(&input[at..]);
         let verdict = validation.verdict;
+        let offset = validation.offset;
         if verdict.number() == 0 {
             break Search::At(Span {
                 place: at,
-                length: validation.offset,
+                length: offset,
             });
         }
-        at += validation.offset; // to the fault: no byte before it is a sync byte, but it may be one itself
+        at += offset; // to the fault: no byte before it is a sync byte, but it may be one itself
     }
 }

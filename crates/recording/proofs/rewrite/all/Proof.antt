@@ -37,9 +37,9 @@ enum-known-span c = search needs
 
 add-at : tie.Need-add-at Inv-loop μ-loop
 add-at c =
-    let s = c .before .before .before .before .before .before .before .before .args .input .now in
-    let loop = c .before .before .before .before .before .loop in
-    let found = search-found s (loop .at) _ _ (c .before .before .before .before .first-whole .ensures) (c .before .before .span .given .1) in
+    let s = c .before .before .before .before .before .before .before .args .input .now in
+    let loop = c .before .before .before .before .loop in
+    let found = search-found s (loop .at) _ _ (c .before .before .before .first-whole .ensures) (c .before .span .given .1) in
     omega (arith, found .inside)
 
 sub-copy : tie.Need-sub-copy Inv-loop μ-loop
@@ -50,23 +50,23 @@ part-copy-start c = search needs
 
 part-copy-end : tie.Need-part-copy-end Inv-loop μ-loop
 part-copy-end c =
-    let s = c .before .before .before .before .before .before .before .before .args .input .now in
-    let loop = c .before .before .before .before .before .loop in
-    let found = search-found s (loop .at) _ _ (c .before .before .before .before .first-whole .ensures) (c .before .before .span .given .1) in
-    found .inside
+    let s = c .before .before .before .before .before .before .before .args .input .now in
+    let loop = c .before .before .before .before .loop in
+    let found = search-found s (loop .at) _ _ (c .before .before .before .first-whole .ensures) (c .before .span .given .1) in
+    omega (arith, found .inside)
 
 sub-copy-2 : tie.Need-sub-copy-2 Inv-loop μ-loop
 sub-copy-2 c =
-    let s = c .before .before .before .before .before .before .before .before .before .args .input .now in
-    let loop = c .before .before .before .before .before .before .loop in
-    let found = search-found s (loop .at) _ _ (c .before .before .before .before .before .first-whole .ensures) (c .before .before .before .span .given .1) in
+    let s = c .before .before .before .before .before .before .before .before .args .input .now in
+    let loop = c .before .before .before .before .before .loop in
+    let found = search-found s (loop .at) _ _ (c .before .before .before .before .first-whole .ensures) (c .before .before .span .given .1) in
     omega (arith, found-fits s (loop .at) _ found (loop .inv .0) (loop .inv .3))
 
 part-copy-start-2 : tie.Need-part-copy-start-2 Inv-loop μ-loop
 part-copy-start-2 c =
-    let s = c .before .before .before .before .before .before .before .before .before .args .input .now in
-    let loop = c .before .before .before .before .before .before .loop in
-    let found = search-found s (loop .at) _ _ (c .before .before .before .before .before .first-whole .ensures) (c .before .before .before .span .given .1) in
+    let s = c .before .before .before .before .before .before .before .before .args .input .now in
+    let loop = c .before .before .before .before .before .loop in
+    let found = search-found s (loop .at) _ _ (c .before .before .before .before .first-whole .ensures) (c .before .before .span .given .1) in
     omega (arith, found-fits s (loop .at) _ found (loop .inv .0) (loop .inv .3))
 
 part-copy-end-2 : tie.Need-part-copy-end-2 Inv-loop μ-loop
@@ -74,37 +74,37 @@ part-copy-end-2 c = search needs
 
 copy-requires : tie.Need-copy-requires Inv-loop μ-loop
 copy-requires c κs =
-    let s = c .before .before .before .before .before .before .before .before .before .before .args .input .now in
-    let loop = c .before .before .before .before .before .before .before .loop in
-    let found = search-found s (loop .at) _ _ (c .before .before .before .before .before .before .first-whole .ensures) (c .before .before .before .before .span .given .1) in
+    let s = c .before .before .before .before .before .before .before .before .before .args .input .now in
+    let loop = c .before .before .before .before .before .before .loop in
+    let found = search-found s (loop .at) _ _ (c .before .before .before .before .before .first-whole .ensures) (c .before .before .before .span .given .1) in
     let size = ap length (found-stream s (loop .at) _ found) ∙ found-length s (loop .at) _ found in
     simp (part, length-drop) (omega (arith, size, found-fits s (loop .at) _ found (loop .inv .0) (loop .inv .3)))
 
 add-to : tie.Need-add-to Inv-loop μ-loop
 add-to c =
-    let s = c .before .before .before .before .before .before .before .before .before .before .before .before .before .before .args .input .now in
-    let loop = c .before .before .before .before .before .before .before .before .before .before .before .loop in
-    let found = search-found s (loop .at) _ _ (c .before .before .before .before .before .before .before .before .before .before .first-whole .ensures) (c .before .before .before .before .before .before .before .before .span .given .1) in
+    let s = c .before .before .before .before .before .before .before .before .before .before .before .before .args .input .now in
+    let loop = c .before .before .before .before .before .before .before .before .before .loop in
+    let found = search-found s (loop .at) _ _ (c .before .before .before .before .before .before .before .before .first-whole .ensures) (c .before .before .before .before .before .before .span .given .1) in
     omega (arith, found-fits s (loop .at) _ found (loop .inv .0) (loop .inv .3))
 
 loop-less : tie.Need-loop-less Inv-loop μ-loop
 loop-less c =
-    let s = c .before .before .before .before .before .before .before .before .before .before .before .before .before .before .args .input .now in
-    let loop = c .before .before .before .before .before .before .before .before .before .before .before .loop in
-    let found = search-found s (loop .at) _ _ (c .before .before .before .before .before .before .before .before .before .before .first-whole .ensures) (c .before .before .before .before .before .before .before .before .span .given .1) in
+    let s = c .before .before .before .before .before .before .before .before .before .before .before .before .args .input .now in
+    let loop = c .before .before .before .before .before .before .before .before .before .loop in
+    let found = search-found s (loop .at) _ _ (c .before .before .before .before .before .before .before .before .first-whole .ensures) (c .before .before .before .before .before .before .span .given .1) in
     omega (arith, found .after, found .long, found .inside)
 
 loop-again : tie.Need-loop-again Inv-loop μ-loop
 loop-again c =
-    let s = c .before .before .before .before .before .before .before .before .before .before .before .before .before .before .args .input .now in
-    let loop = c .before .before .before .before .before .before .before .before .before .before .before .loop in
-    let found = search-found s (loop .at) _ _ (c .before .before .before .before .before .before .before .before .before .before .first-whole .ensures) (c .before .before .before .before .before .before .before .before .span .given .1) in
-    let stream = streamOf (recordOf (drop (c .before .before .before .before .before .before .before .before .span .given .0 .0 .place) s)) in
-    let copy = c .before .before .before .copy in
+    let s = c .before .before .before .before .before .before .before .before .before .before .before .before .args .input .now in
+    let loop = c .before .before .before .before .before .before .before .before .before .loop in
+    let found = search-found s (loop .at) _ _ (c .before .before .before .before .before .before .before .before .first-whole .ensures) (c .before .before .before .before .before .before .span .given .1) in
+    let stream = streamOf (recordOf (drop (c .before .before .before .before .before .before .span .given .0 .0 .place) s)) in
+    let copy = c .before .before .copy in
     let size = found-length s (loop .at) _ found in (
       loop .inv .0 ++ stream,
       rw (length-append, size, loop .inv .1),
-      lent (loop .inv .0) stream (c .before .before .before .before .before .before .before .before .before .before .before .before .before .before .args .out .now) (loop .out) (copy .last .1 .0) (loop .to) (loop .inv .1) (loop .inv .2) (found-copied s (loop .at) _ found _ _ (copy .ensures .1)),
+      lent (loop .inv .0) stream (c .before .before .before .before .before .before .before .before .before .before .before .before .args .out .now) (loop .out) (copy .last .1 .0) (loop .to) (loop .inv .1) (loop .inv .2) (found-copied s (loop .at) _ found _ _ (copy .ensures .1)),
       found-next s (loop .at) _ found (loop .inv .0) (loop .inv .3),
       found .inside,
       omega arith,

@@ -55,27 +55,27 @@ number-requires c κs = search needs
 
 add-at : tie.Need-add-at Inv-loop μ-loop
 add-at c =
-    let s = c .before .before .before .before .before .before .before .before .before .args .input .now in
-    let r = c .before .before .before .before .before .before .next-sync .result in
-    let moved = fault-moves s r _ (omega arith) (c .before .before .before .before .before .before .next-sync .ensures .here (omega arith)) (rw part at (c .before .before .before .validate .ensures)) in
+    let s = c .before .before .before .before .before .before .before .before .args .input .now in
+    let r = c .before .before .before .before .before .next-sync .result in
+    let moved = fault-moves s r _ (omega arith) (c .before .before .before .before .before .next-sync .ensures .here (omega arith)) (rw part at (c .before .before .validate .ensures)) in
     omega (arith, moved)
 
 loop-less : tie.Need-loop-less Inv-loop μ-loop
 loop-less c =
-    let s = c .before .before .before .before .before .before .before .before .before .args .input .now in
-    let r = c .before .before .before .before .before .before .next-sync .result in
-    let moved = fault-moves s r _ (omega arith) (c .before .before .before .before .before .before .next-sync .ensures .here (omega arith)) (rw part at (c .before .before .before .validate .ensures)) in
-    omega (arith, moved, c .before .before .before .before .before .before .next-sync .ensures .after)
+    let s = c .before .before .before .before .before .before .before .before .args .input .now in
+    let r = c .before .before .before .before .before .next-sync .result in
+    let moved = fault-moves s r _ (omega arith) (c .before .before .before .before .before .next-sync .ensures .here (omega arith)) (rw part at (c .before .before .validate .ensures)) in
+    omega (arith, moved, c .before .before .before .before .before .next-sync .ensures .after)
 
 loop-again : tie.Need-loop-again Inv-loop μ-loop
 loop-again c =
-    let s = c .before .before .before .before .before .before .before .before .before .args .input .now in
-    let r = c .before .before .before .before .before .before .next-sync .result in
-    let at = after-sync s (c .before .before .before .before .before .before .before .loop .at) r (c .before .before .before .before .before .before .next-sync .ensures) in
-    let answer = rw part at (c .before .before .before .validate .ensures) in
-    let number : c .before .before .number .result ≡ validationOf (drop r s) .number = c .before .before .number .ensures ∙ ap (λ (a : Answer). a .number) answer in
-    let on = after-fault s r (λ w. c .before .if2 .left (number ∙ w)) in
-    ap (λ (a : Answer). deliveriesAfter s (r + a .offset)) answer ∙ sym (at ∙ on) ∙ c .before .before .before .before .before .before .before .loop .inv
+    let s = c .before .before .before .before .before .before .before .before .args .input .now in
+    let r = c .before .before .before .before .before .next-sync .result in
+    let at = after-sync s (c .before .before .before .before .before .before .loop .at) r (c .before .before .before .before .before .next-sync .ensures) in
+    let answer = rw part at (c .before .before .validate .ensures) in
+    let number : c .before .number .result ≡ validationOf (drop r s) .number = c .before .number .ensures ∙ ap (λ (a : Answer). a .number) answer in
+    let on = after-fault s r (λ w. c .if2 .left (number ∙ w)) in
+    ap (λ (a : Answer). deliveriesAfter s (r + a .offset)) answer ∙ sym (at ∙ on) ∙ c .before .before .before .before .before .before .loop .inv
 
 returns : tie.Need-returns Inv-loop μ-loop
 returns c =
