@@ -1,22 +1,11 @@
 -- Laws of bytes below a bound.
-use Prim.Native.Nat.{ℕ, zero, suc, _<_, _≤_}
+use Prim.Native.Nat.{ℕ, zero, suc, _<_}
 use native.Mathlib.Omega.{arith}
-use native.Mathlib.Nat.{le-of-suc-le-suc, not-suc-le-zero}
 use mathlib.Core.List.{List, [], _∷_, _++_}
-use lib.ListN.{length, getD, take, drop}
+use lib.ListN.{getD, take, drop}
 use Rattle.basics.specs.Bytes.{AllBelow}
 
 module _ (n : ℕ) where
-  -- from each index, and to each
-  pub all-of-getD : (l : List ℕ) → ((i : ℕ) → i < length l → getD l i 0 < n) → AllBelow n l
-  all-of-getD [] h = tt
-  all-of-getD (x ∷ xs) h = (h 0 (omega arith), all-of-getD xs (λ i l. h (suc i) (omega arith)))
-
-  pub getD-of-all : (l : List ℕ) → AllBelow n l → (i : ℕ) → i < length l → getD l i 0 < n
-  getD-of-all [] a i h = absurd (not-suc-le-zero h)
-  getD-of-all (x ∷ xs) a zero h = a .0
-  getD-of-all (x ∷ xs) a (suc i) h = getD-of-all xs (a .1) i (le-of-suc-le-suc h)
-
   -- past the end stands 0
   pub getD-below : (l : List ℕ) → AllBelow n l → 0 < n → (i : ℕ) → getD l i 0 < n
   getD-below [] a pos i = pos
@@ -36,10 +25,6 @@ module _ (n : ℕ) where
   all-drop zero l a = a
   all-drop (suc k) [] a = tt
   all-drop (suc k) (x ∷ xs) a = all-drop k xs (a .1)
-
-  pub all-weaken : (m : ℕ) (l : List ℕ) → n ≤ m → AllBelow n l → AllBelow m l
-  all-weaken m [] h a = tt
-  all-weaken m (x ∷ xs) h a = (omega arith, all-weaken m xs h (a .1))
 
   pub take-below : (k : ℕ) (l : List ℕ) → ((i : ℕ) → i < k → getD l i 0 < n) → AllBelow n (take k l)
   take-below zero l h = tt

@@ -77,7 +77,7 @@ carried-of K r range e =
       sized = right-length K (h .command) n (four .0);
     }
 
-pub lines-of : (K : Kind) (r : Record) → Carried K r → first (linesAs K r) ≡ 0
+lines-of : (K : Kind) (r : Record) → Carried K r → first (linesAs K r) ≡ 0
 unfolding choose
 lines-of K r carried =
     simp (

@@ -90,7 +90,7 @@ few-as Datagram s whole = omega arith
 few-as Telegram s whole = omega arith
 few-as Unknown s whole = omega arith
 
-pub carried-as : (K : Kind) (s : List ℕ) → WholeAs K s → lengthAs K s ≤ length s → Carried K (recordAs K s)
+carried-as : (K : Kind) (s : List ℕ) → WholeAs K s → lengthAs K s ≤ length s → Carried K (recordAs K s)
 carried-as K s whole held =
     let count = counted K s held in
     record {

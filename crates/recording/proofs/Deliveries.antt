@@ -30,7 +30,7 @@ Whole s = validationOf s .number ≡ 0
 pub whole-sync : (s : List ℕ) → Whole s → getD s 0 0 ≡ 0xAA
 whole-sync s w = whole-parts s w .whole .sync
 
-pub whole-low : (s : List ℕ) → Whole s → (k : ℕ) → 0 < k → k < validationOf s .offset → getD s k 0 < 128
+whole-low : (s : List ℕ) → Whole s → (k : ℕ) → 0 < k → k < validationOf s .offset → getD s k 0 < 128
 whole-low s w k pos h = whole-parts s w .whole .low k pos (omega (arith, whole-parts s w .sized))
 
 eight : (K : Kind) (s : List ℕ) → WholeAs K s → 8 ≤ headerLength K
@@ -97,7 +97,7 @@ module _ (s : List ℕ) (start : ℕ) where
   unfolding deliveriesFrom
   after-end past = rw (drop-of-length-le s {i = start} past)
 
-  pub after-on : start < length s → (Whole (drop start s) → ⊥) → deliveriesAfter s start ≡ deliveriesAfter s (start + 1)
+  after-on : start < length s → (Whole (drop start s) → ⊥) → deliveriesAfter s start ≡ deliveriesAfter s (start + 1)
   after-on inside w =
       let begins = drop-cons s start 0 inside in
       rw (begins, add-one) (on start (getD s start 0) (drop (suc start) s) (λ x. w (rw begins x)))

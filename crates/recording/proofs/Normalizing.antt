@@ -17,7 +17,7 @@ use Rattle.recording.specs.Recording.{deliveriesFrom, deliveriesAfter, c
 use Rattle.recording.proofs.Deliveries.{Whole, whole-long, first-whole, after-ind, contents-moved}
 
 -- a written stream delivers its record, and then what is behind it
-pub records-stream : (r : Record) → Writable r → (t : List ℕ) → records (streamOf r ++ t) ≡ r ∷ records t
+records-stream : (r : Record) → Writable r → (t : List ℕ) → records (streamOf r ++ t) ≡ r ∷ records t
 records-stream r w t =
     let s = streamOf r ++ t in
     let (verdict, read) = read-back r w t in

@@ -3,25 +3,15 @@ use Prim.Native.Nat.{ℕ, _+_, _-_, _≤_}
 use native.Mathlib.Omega.{arith}
 use mathlib.Core.Path.{_≡_, sym, ap, _∙_}
 use mathlib.Core.List.{List, [], _++_, append-assoc}
-use borrow.Author.Tests.{le-ltb}
 use lib.ListN.{length, take, drop, length-append}
 use lib.Seq.{take-length}
 use Rattle.basics.specs.Bytes.{over}
-use Rattle.basics.specs.Choice.{choose}
-use Rattle.stream.specs.Layout.{payloadLength}
-use Rattle.stream.specs.declared.Kind.{Kind}
-use Rattle.stream.specs.declared.Kind.the-variants.{Packet, Datagram, Telegram, Unknown}
-use Rattle.record.specs.Encode.{Writable}
 use Rattle.stream.specs.Validation.{validationOf}
-use Rattle.record.specs.Record.{Record, recordOf, streamOf, framesOf}
-use Rattle.record.proofs.Carried.{Carried, kindIn, writable-carried, writable-refusal}
+use Rattle.record.specs.Record.{recordOf, streamOf}
 use Rattle.record.proofs.Written.{whole-again, whole-length}
 use Rattle.recording.specs.Normalize.{streams, normalized}
 use Rattle.recording.specs.Recording.{Delivery, deliveriesAfter, contentsOf}
-use Rattle.recording.specs.Stage.{outputOf}
 use Rattle.recording.specs.declared.search.Span.{Span}
-use Rattle.recording.proofs.Deliveries.{Whole}
-use Rattle.recording.proofs.Reading.{output-fits}
 use Rattle.recording.proofs.Searching.{FoundAt}
 
 -- what is still to be written from a place on
@@ -33,7 +23,7 @@ unfolding streams
 remaining-none s start e = ap (λ (ds : List Delivery). streams (contentsOf ds)) e
 
 module _ (s : List ℕ) (start : ℕ) (span : Span) (found : FoundAt s start span) where
-  pub remaining-found : remaining s start ≡ streamOf (recordOf (drop (span .place) s)) ++ remaining s (span .place + span .length)
+  remaining-found : remaining s start ≡ streamOf (recordOf (drop (span .place) s)) ++ remaining s (span .place + span .length)
   unfolding streams
   remaining-found = ap (λ (ds : List Delivery). streams (contentsOf ds)) (found .deliveries)
 

@@ -72,7 +72,7 @@ lowBits-withTopBits s (x ∷ xs) a =
     rw (byte, lowBits-withTopBits (s / 2) xs (a .1))
 
 -- as many bits of the septet come back as there are bytes
-pub septetOf-withTopBits : (s : ℕ) (b : List ℕ) → AllBelow 128 b → septetOf (withTopBits s b) ≡ s % 2 ^ length b
+septetOf-withTopBits : (s : ℕ) (b : List ℕ) → AllBelow 128 b → septetOf (withTopBits s b) ≡ s % 2 ^ length b
 unfolding septetOf withTopBits
 septetOf-withTopBits s [] a = sym (mod-one s)
 septetOf-withTopBits s (x ∷ xs) a = rw (← add-one (length xs)) (omega (arith, septetOf-withTopBits (s / 2) xs (a .1), mod-pow-add s (length xs) 1))

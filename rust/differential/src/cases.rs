@@ -2,6 +2,7 @@
 
 use crate::check::{hex, Checked, Checker};
 use crate::library;
+use crate::naive::{self, Delivered};
 use crate::recordings::{self, BLOCK, MAX_PAYLOAD, MAX_STREAM};
 use reference::Header;
 
@@ -51,18 +52,21 @@ impl Checker {
         for room in [0, need.saturating_sub(1), need, need + 1, other] {
             self.normalize(input, room)?;
         }
+        if input.len() <= naive::MOST {
+            self.by_every_place(input, &records, &normal)?;
+        }
         let (_, again) = self.normalize(&normal, need)?;
         self.holds(again == normal, || {
             format!("normalizing twice is normalizing once: {}", hex(input))
         })?;
         let mut at = 0;
         let mut payload = [0; MAX_PAYLOAD];
-        for (header, expected) in &records {
+        for record in &records {
             let found = library::next(&normal, at, &mut payload);
             let same = found.found
                 && found.place == at
-                && found.header == *header
-                && payload[..found.payload] == expected[..];
+                && found.header == record.header
+                && payload[..found.payload] == record.payload[..];
             self.holds(same, || {
                 format!("the normalized recording's records: {}", hex(input))
             })?;
@@ -80,6 +84,27 @@ impl Checker {
         })
     }
 
+    /// What was found and written, against the records by the rule itself.
+    fn by_every_place(
+        &mut self,
+        input: &[u8],
+        records: &[Delivered],
+        normal: &[u8],
+    ) -> Checked<()> {
+        let expected = naive::records(input);
+        self.count("naive recordings");
+        *self.cases.entry("naive records").or_default() += expected.len() as u64;
+        self.holds(records == expected, || {
+            let input = hex(input);
+            format!("the records of {input} are {expected:X?}; found were {records:X?}")
+        })?;
+        let expected = naive::normalized(&expected);
+        self.holds(normal == expected, || {
+            let (input, expected, normal) = (hex(input), hex(&expected), hex(normal));
+            format!("{input} normalized is {expected}; written was {normal}")
+        })
+    }
+
     /// `next` from places around both ends and somewhere between.
     fn places(&mut self, input: &[u8]) -> Checked<()> {
         let n = input.len();
@@ -94,7 +119,7 @@ impl Checker {
     }
 
     /// The recording's records, each looked for with rooms around its need and written again.
-    fn records(&mut self, input: &[u8]) -> Checked<Vec<(Header, Vec<u8>)>> {
+    fn records(&mut self, input: &[u8]) -> Checked<Vec<Delivered>> {
         let mut records = Vec::new();
         let mut wrapped = vbus::records(input);
         let mut start = 0;
@@ -135,7 +160,12 @@ impl Checker {
             self.holds(same, || {
                 format!("the encoded stream's record: {}", hex(&stream))
             })?;
-            records.push((found.header, payload));
+            records.push(Delivered {
+                place: found.place,
+                length: found.length,
+                header: found.header,
+                payload,
+            });
             start = end;
         }
     }

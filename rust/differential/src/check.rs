@@ -183,7 +183,7 @@ impl Checker {
             let answer = vbus::inject(&mut block[..length], septet);
             let same = match put.number {
                 0 => answer == Ok(()) && block[..length] == put.bytes[..length],
-                _ => answer == Err(vbus::Error::Septets) && block == bytes,
+                _ => answer == Err(vbus::Error::WrongSeptetBlock) && block == bytes,
             };
             self.holds(same, || {
                 format!("vbus::inject of {} and {septet}", hex(&bytes[..length]))

@@ -10,6 +10,7 @@ mod cases;
 mod check;
 mod layouts;
 mod library;
+mod naive;
 mod recordings;
 mod rng;
 
@@ -159,7 +160,8 @@ fn compare(
     complete(checker).map_err(|failure| ("counts", failure))
 }
 
-/// Every refusal and every verdict occurred, or the run has shown less than it claims.
+/// Every refusal and every verdict occurred, and the naive reading found records, or the run has
+/// shown less than it claims.
 fn complete(checker: &mut Checker) -> Checked<()> {
     let numbers = checker.numbers;
     for (number, count) in numbers.iter().enumerate() {
@@ -168,6 +170,10 @@ fn complete(checker: &mut Checker) -> Checked<()> {
     let verdicts = checker.verdicts;
     for (verdict, count) in verdicts.iter().enumerate() {
         checker.holds(*count > 0, || format!("the verdict V{verdict} occurs"))?;
+    }
+    for class in ["naive recordings", "naive records"] {
+        let some = checker.cases.get(class).is_some_and(|count| *count > 0);
+        checker.holds(some, || format!("there are {class}"))?;
     }
     Ok(())
 }

@@ -8,74 +8,75 @@ use std::fmt;
 #[non_exhaustive]
 pub enum Error {
     /// The version is none of 0x10, 0x20, 0x30 and 0x31.
-    Version,
+    UnknownVersion = 1,
     /// The destination or the source has bit 7 or 15 set.
-    Address,
+    HighAddress = 2,
     /// The command has bit 7 or 15 set, or is above 0x7F in a telegram.
-    Command,
+    HighCommand = 3,
     /// The payload's length does not fit the header.
-    PayloadLength,
+    WrongLength = 4,
     /// The output is too short for the result.
-    Room,
-    /// The starting place lies behind the input's end.
-    Start,
+    OutputTooShort = 5,
+    /// The starting place lies past the input's end.
+    StartPastEnd = 6,
     /// The septet block is longer than seven bytes, or holds bits that must be zero.
-    Septets,
+    WrongSeptetBlock = 7,
     /// The header or the payload's length is not that of a block packet.
-    NotBlockPacket,
+    NotBlockPacket = 8,
     /// A section runs past the payload's end.
-    SectionLength,
+    SectionPastEnd = 9,
     /// There is no section or element with that number.
-    NoSuchPart,
+    NoSuchPart = 10,
     /// The section's type has no known element size.
-    SectionType,
+    UnknownSectionType = 11,
 }
 
 impl Error {
     const ALL: [Error; 11] = [
-        Error::Version,
-        Error::Address,
-        Error::Command,
-        Error::PayloadLength,
-        Error::Room,
-        Error::Start,
-        Error::Septets,
+        Error::UnknownVersion,
+        Error::HighAddress,
+        Error::HighCommand,
+        Error::WrongLength,
+        Error::OutputTooShort,
+        Error::StartPastEnd,
+        Error::WrongSeptetBlock,
         Error::NotBlockPacket,
-        Error::SectionLength,
+        Error::SectionPastEnd,
         Error::NoSuchPart,
-        Error::SectionType,
+        Error::UnknownSectionType,
     ];
 
     /// The library's number for this refusal, 1 to 11.
     ///
     /// ```
-    /// assert_eq!(vbus::Error::Room.number(), 5);
+    /// assert_eq!(vbus::Error::OutputTooShort.number(), 5);
     /// ```
     pub fn number(self) -> u32 {
-        self as u32 + 1
+        self as u32
     }
 
     /// The refusal with the library's number `number`.
     pub fn from_number(number: u32) -> Option<Error> {
-        let index = usize::try_from(number).ok()?.checked_sub(1)?;
-        Error::ALL.get(index).copied()
+        Error::ALL
+            .into_iter()
+            .find(|error| error.number() == number)
     }
 }
 
 impl fmt::Display for Error {
     fn fmt(&self, f: &mut fmt::Formatter<'_>) -> fmt::Result {
         f.write_str(match self {
-            Error::Version => "unknown version",
-            Error::Address => "destination or source has a bit set that must be zero",
-            Error::Command => "command has a bit set that must be zero",
-            Error::PayloadLength => "payload length does not fit the header",
-            Error::Room => "output too short",
-            Error::Start => "starting place behind the input's end",
-            Error::Septets => "septet block too long or with bits set that must be zero",
+            Error::UnknownVersion => "unknown version",
+            Error::HighAddress => "destination or source has a bit set that must be zero",
+            Error::HighCommand => "command has a bit set that must be zero",
+            Error::WrongLength => "payload length does not fit the header",
+            Error::OutputTooShort => "output too short",
+            Error::StartPastEnd => "starting place past the input's end",
+            Error::WrongSeptetBlock => "septet block too long or with bits set that must be zero",
             Error::NotBlockPacket => "not a block packet",
-            Error::SectionLength => "section runs past the payload's end",
+            Error::SectionPastEnd => "section runs past the payload's end",
             Error::NoSuchPart => "no such section or element",
-            Error::SectionType => "section type has no known element size",
+            Error::UnknownSectionType => "section type has no known element size",
         })
     }
 }
@@ -87,40 +88,41 @@ impl error::Error for Error {}
 #[non_exhaustive]
 pub enum Verdict {
     /// The first byte is not 0xAA.
-    Sync,
+    NoSync = 1,
     /// A later byte is 0x80 or more.
-    HighByte,
+    HighByte = 2,
     /// The version is unknown.
-    Version,
+    UnknownVersion = 3,
     /// The checksum of a header or of a datagram is wrong.
-    HeaderChecksum,
+    HeaderChecksum = 4,
     /// A septet bit that must be zero is set.
-    Septet,
+    UnusedSeptetBit = 5,
     /// The checksum of a frame is wrong.
-    FrameChecksum,
+    FrameChecksum = 6,
     /// The input ends before the stream does.
-    Incomplete,
+    Ended = 7,
 }
 
 impl Verdict {
     const ALL: [Verdict; 7] = [
-        Verdict::Sync,
+        Verdict::NoSync,
         Verdict::HighByte,
-        Verdict::Version,
+        Verdict::UnknownVersion,
         Verdict::HeaderChecksum,
-        Verdict::Septet,
+        Verdict::UnusedSeptetBit,
         Verdict::FrameChecksum,
-        Verdict::Incomplete,
+        Verdict::Ended,
     ];
 
     /// The library's number for this verdict, 1 to 7.
     pub fn number(self) -> u8 {
-        self as u8 + 1
+        self as u8
     }
 
     pub(crate) fn from_number(number: u8) -> Option<Verdict> {
-        let index = usize::from(number).checked_sub(1)?;
-        Verdict::ALL.get(index).copied()
+        Verdict::ALL
+            .into_iter()
+            .find(|verdict| verdict.number() == number)
     }
 }
 
@@ -135,13 +137,13 @@ pub struct Fault {
 impl fmt::Display for Fault {
     fn fmt(&self, f: &mut fmt::Formatter<'_>) -> fmt::Result {
         let what = match self.verdict {
-            Verdict::Sync => "no sync byte",
+            Verdict::NoSync => "no sync byte",
             Verdict::HighByte => "byte of 0x80 or more",
-            Verdict::Version => "unknown version",
+            Verdict::UnknownVersion => "unknown version",
             Verdict::HeaderChecksum => "wrong header checksum",
-            Verdict::Septet => "septet bit set that must be zero",
+            Verdict::UnusedSeptetBit => "septet bit set that must be zero",
             Verdict::FrameChecksum => "wrong frame checksum",
-            Verdict::Incomplete => "input ends",
+            Verdict::Ended => "input ends",
         };
         write!(f, "{what} at offset {}", self.offset)
     }
@@ -153,15 +155,40 @@ impl error::Error for Fault {}
 mod tests {
     use super::*;
 
+    /// The numbers that include/vbus.h gives.
     #[test]
     fn numbers_match() {
-        for number in 1..=11 {
-            assert_eq!(Error::from_number(number).unwrap().number(), number);
+        let errors = [
+            (1, Error::UnknownVersion),
+            (2, Error::HighAddress),
+            (3, Error::HighCommand),
+            (4, Error::WrongLength),
+            (5, Error::OutputTooShort),
+            (6, Error::StartPastEnd),
+            (7, Error::WrongSeptetBlock),
+            (8, Error::NotBlockPacket),
+            (9, Error::SectionPastEnd),
+            (10, Error::NoSuchPart),
+            (11, Error::UnknownSectionType),
+        ];
+        for (number, error) in errors {
+            assert_eq!(error.number(), number);
+            assert_eq!(Error::from_number(number), Some(error));
         }
         assert_eq!(Error::from_number(0), None);
         assert_eq!(Error::from_number(12), None);
-        for number in 1..=7 {
-            assert_eq!(Verdict::from_number(number).unwrap().number(), number);
+        let verdicts = [
+            (1, Verdict::NoSync),
+            (2, Verdict::HighByte),
+            (3, Verdict::UnknownVersion),
+            (4, Verdict::HeaderChecksum),
+            (5, Verdict::UnusedSeptetBit),
+            (6, Verdict::FrameChecksum),
+            (7, Verdict::Ended),
+        ];
+        for (number, verdict) in verdicts {
+            assert_eq!(verdict.number(), number);
+            assert_eq!(Verdict::from_number(number), Some(verdict));
         }
         assert_eq!(Verdict::from_number(0), None);
         assert_eq!(Verdict::from_number(8), None);

@@ -9,12 +9,11 @@
 //!     0xAA, 0x11, 0x44, 0x10, 0x66, 0x10, 0x00, 0x02, 0x01, 0x21, // header
 //!     0x07, 0x04, 0x0F, 0x00, 0x00, 0x65, // frame
 //! ];
-//! for entry in vbus::records(&recording) {
-//!     assert_eq!(entry.place, 2);
-//!     assert_eq!(entry.length, 16);
-//!     assert_eq!(entry.record.header.source, 0x6610);
-//!     assert_eq!(entry.record.payload, [0x07, 0x04, 0x0F, 0x00]);
-//! }
+//! let entries: Vec<vbus::Entry> = vbus::records(&recording).collect();
+//! assert_eq!(entries.len(), 1);
+//! assert_eq!((entries[0].place, entries[0].length), (2, 16));
+//! assert_eq!(entries[0].record.header.source, 0x6610);
+//! assert_eq!(entries[0].record.payload, [0x07, 0x04, 0x0F, 0x00]);
 //! ```
 
 mod error;
@@ -305,7 +304,7 @@ impl FusedIterator for Records<'_> {}
 /// let mut out = [0; 10];
 /// assert_eq!(vbus::encode(header, &[], &mut out), Ok(8));
 /// assert_eq!(out, [0xAA, 0x10, 0x20, 0x31, 0x77, 0x30, 0x01, 0x76, 0, 0]);
-/// assert_eq!(vbus::encode(header, &[], &mut out[..7]), Err(vbus::Error::Room));
+/// assert_eq!(vbus::encode(header, &[], &mut out[..7]), Err(vbus::Error::OutputTooShort));
 /// ```
 pub fn encode(header: Header, payload: &[u8], out: &mut [u8]) -> Result<usize, Error> {
     // SAFETY: pointers and counts are those of slices; `out` is borrowed mutably, so it does not

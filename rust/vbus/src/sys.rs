@@ -58,8 +58,9 @@ pub struct Septets {
     pub septet: u8,
 }
 
-// Every pointer must be non-null and valid for the count beside it (or for the array's length),
-// for reading where const and for writing where mut, and an output must not overlap an input.
+// A pointer must be valid for as many bytes as the count beside it says (an array's for its
+// length), for reading where const and for writing where mut. With count 0 it may be anything, null
+// too. An output must not overlap an input.
 extern "C" {
     pub fn vbus_checksum(block: *const u8, n: usize) -> u8;
     pub fn vbus_extract(bytes: *const [u8; 7], length: usize) -> Septets;

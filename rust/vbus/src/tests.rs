@@ -33,7 +33,7 @@ fn normalizing() {
     let expected = [&P1[..], &T2[..]].concat();
     assert_eq!(normalize_to_vec(&input), expected);
     let mut out = [0xEE; 33];
-    assert_eq!(normalize(&input, &mut out[..32]), Err(Error::Room));
+    assert_eq!(normalize(&input, &mut out[..32]), Err(Error::OutputTooShort));
     assert_eq!(out, [0xEE; 33]);
     assert_eq!(normalize(&input, &mut out), Ok(33));
     assert_eq!(out[..], expected);
@@ -42,16 +42,54 @@ fn normalizing() {
 
 #[test]
 fn refusals() {
-    let header = Header {
-        version: 0x11,
-        ..Header::default()
+    let packet = |version, source, command| Header {
+        version,
+        destination: 0x0015,
+        source,
+        command,
     };
-    assert_eq!(encode_to_vec(header, &[]), Err(Error::Version));
-    assert_eq!(next(&P1, 17, &mut []), Err(Error::Start));
-    assert_eq!(next(&P1, 0, &mut [0; 3]), Err(Error::Room));
-    assert_eq!(extract(&mut [0; 8]), Err(Error::Septets));
-    assert_eq!(inject(&mut [0x80], 0), Err(Error::Septets));
-    assert!(matches!(sections(header, &[]), Err(Error::NotBlockPacket)));
+    let encoded = |header, length| encode_to_vec(header, &vec![0; length]);
+    let unknown = packet(0x11, 0, 0);
+    assert_eq!(encoded(unknown, 0), Err(Error::UnknownVersion));
+    assert_eq!(encoded(packet(0x10, 0x80, 0), 0), Err(Error::HighAddress));
+    assert_eq!(encoded(packet(0x10, 0, 0x80), 0), Err(Error::HighCommand));
+    assert_eq!(encoded(packet(0x10, 0, 0), 3), Err(Error::WrongLength));
+    assert_eq!(next(&P1, 0, &mut [0; 3]), Err(Error::OutputTooShort));
+    assert_eq!(next(&P1, 17, &mut []), Err(Error::StartPastEnd));
+    assert_eq!(extract(&mut [0; 8]), Err(Error::WrongSeptetBlock));
+    assert_eq!(inject(&mut [0x80], 0), Err(Error::WrongSeptetBlock));
+    let block = packet(0x10, 0, 0x0100);
+    assert_eq!(section(unknown, &[], 0), Err(Error::NotBlockPacket));
+    assert_eq!(section(block, &[1, 1, 0, 0], 0), Err(Error::SectionPastEnd));
+    assert_eq!(section(block, &[0, 1, 0, 0], 1), Err(Error::NoSuchPart));
+    let unknown = section(block, &[0, 0x77, 0, 0], 0).unwrap();
+    assert_eq!(unknown.element(0), Err(Error::UnknownSectionType));
+}
+
+#[test]
+fn faults() {
+    let fault = |changes: &[(usize, u8)]| {
+        let mut stream = P1;
+        for &(at, byte) in changes {
+            stream[at] = byte;
+        }
+        let fault = validate(&stream).unwrap_err();
+        (fault.verdict, fault.offset)
+    };
+    assert_eq!(validate(&P1), Ok(16));
+    assert_eq!(fault(&[(0, 0x2A)]), (Verdict::NoSync, 0));
+    assert_eq!(fault(&[(3, 0x80)]), (Verdict::HighByte, 3));
+    assert_eq!(fault(&[(5, 0x11)]), (Verdict::UnknownVersion, 5));
+    assert_eq!(fault(&[(9, 0x20)]), (Verdict::HeaderChecksum, 9));
+    // With its checksum right.
+    let unused = [(14, 0x10), (15, 0x55)];
+    assert_eq!(fault(&unused), (Verdict::UnusedSeptetBit, 14));
+    assert_eq!(fault(&[(15, 0x64)]), (Verdict::FrameChecksum, 15));
+    let ended = Fault {
+        verdict: Verdict::Ended,
+        offset: 15,
+    };
+    assert_eq!(validate(&P1[..15]), Err(ended));
 }
 
 #[test]
@@ -86,6 +124,6 @@ fn block_packet() {
     assert_eq!(sections[1].payload(), [0x10, 0, 0x20, 0]);
     let elements: Vec<&[u8]> = sections[1].elements().unwrap().collect();
     assert_eq!(elements, [[0x10, 0], [0x20, 0]]);
-    assert_eq!(sections[2].element_count(), Err(Error::SectionType));
+    assert_eq!(sections[2].element_count(), Err(Error::UnknownSectionType));
     assert_eq!(sections[2].payload(), [9; 4]);
 }
