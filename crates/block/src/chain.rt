@@ -4,30 +4,9 @@ ghost use mathlib.Core.Bool.{false};
 ghost use mathlib.Core.List.{flatten};
 ghost use Prim.Native.Nat.{_<_, _≤_};
 ghost use lib.ListN.{length, drop};
-ghost use Rattle.block.specs.Answer.{notBlock};
 ghost use Rattle.block.specs.Section.{sectionsOf, overrun};
 ghost use Rattle.block.specs.Stage.{chainCount, payloadCount};
 use crate::Count;
-use record::Header;
-
-// Refusal 8: no block packet, or a payload that no packet has.
-pub fn not_block(header: Header, bytes: usize) -> bool
-    ensures { λ r. ⌜ r ≡ notBlock header bytes ⌝ }
-{
-    if header.version != 0x10 {
-        return true;
-    }
-    if header.destination != 0x0015 {
-        return true;
-    }
-    if header.command != 0x0100 {
-        return true;
-    }
-    if bytes % 4 != 0 {
-        return true;
-    }
-    bytes > 508
-}
 
 // The chain check at a section's header: the sections of what is left.
 pub fn header_step(rest: &[u8]) -> Count

@@ -1,11 +1,10 @@
 // The sections and elements in the payload of a block packet.
 ghost use mathlib.Core.Path.{_≡_};
-ghost use Rattle.block.specs.Answer.{sectionCount, sectionFound, sectionShown, elementCount, elementFound, elementShown};
-ghost use Rattle.block.specs.Element.{temperatureOf};
+ghost use Rattle.block.specs.Answer.{notBlock, sectionCount, sectionFound, sectionShown, elementCount, elementFound, elementShown};
+ghost use Rattle.block.specs.Element.{elementSize, temperatureOf};
 ghost use Rattle.block.specs.Part.{PartOf};
 
 mod chain;
-mod size;
 
 use record::Header;
 
@@ -22,11 +21,57 @@ pub struct Part {
     pub length: usize,
 }
 
+// A refusal, by its number.
+fn refused(number: u32) -> Part
+    ensures { λ r. ⌜ r ≡ record { number = number; start = 0; length = 0 } ⌝ }
+{
+    Part {
+        number,
+        start: 0,
+        length: 0,
+    }
+}
+
+// Refusal 8: no block packet, or a payload that no packet has.
+fn not_block(header: Header, bytes: usize) -> bool
+    ensures { λ r. ⌜ r ≡ notBlock header bytes ⌝ }
+{
+    if header.version != 0x10 {
+        return true;
+    }
+    if header.destination != 0x0015 {
+        return true;
+    }
+    if header.command != 0x0100 {
+        return true;
+    }
+    if bytes % 4 != 0 {
+        return true;
+    }
+    bytes > 508
+}
+
+// The bytes of an element, by its section's type; 0 for a type that is not in the table.
+fn element_size(sort: u8) -> usize
+    ensures { λ r. ⌜ r ≡ elementSize sort ⌝ }
+{
+    match sort {
+        0x01 => 2,
+        0x05 => 4,
+        0x08 => 1,
+        0x0A => 8,
+        0x0B => 4,
+        0x0C => 4,
+        0x0D => 4,
+        _ => 0,
+    }
+}
+
 // How many sections a payload has.
 pub fn section_count(header: Header, payload: &[u8]) -> Count
     ensures { λ r. ⌜ r ≡ sectionCount header (now (payload .entry)) ⌝ }
 {
-    if chain::not_block(header, payload.len()) {
+    if not_block(header, payload.len()) {
         return Count {
             number: 8,
             count: 0,
@@ -77,7 +122,7 @@ pub fn element_count(header: Header, payload: &[u8], k: usize) -> Count
     }
     let start = part.start;
     let section = &payload[start..];
-    let size = size::element_size(section[1]);
+    let size = element_size(section[1]);
     if size == 0 {
         return Count {
             number: 11,
@@ -103,7 +148,7 @@ pub fn find_element(header: Header, payload: &[u8], k: usize, i: usize) -> Part
     }
     let start = find_section(header, payload, k).start;
     let section = &payload[start..];
-    let size = size::element_size(section[1]);
+    let size = element_size(section[1]);
     Part {
         number: 0,
         start: start + (4 + i * size),
@@ -119,16 +164,6 @@ pub fn element<'a>(header: Header, payload: &'a [u8], k: usize, i: usize) -> &'a
     let start = found.start;
     let end = start + found.length;
     &payload[start..end]
-}
-
-fn refused(number: u32) -> Part
-    ensures { λ r. ⌜ r ≡ record { number = number; start = 0; length = 0 } ⌝ }
-{
-    Part {
-        number,
-        start: 0,
-        length: 0,
-    }
 }
 
 // A temperature: an element's two bytes as a signed number.

@@ -33,7 +33,10 @@ fn normalizing() {
     let expected = [&P1[..], &T2[..]].concat();
     assert_eq!(normalize_to_vec(&input), expected);
     let mut out = [0xEE; 33];
-    assert_eq!(normalize(&input, &mut out[..32]), Err(Error::OutputTooShort));
+    assert_eq!(
+        normalize(&input, &mut out[..32]),
+        Err(Error::OutputTooShort)
+    );
     assert_eq!(out, [0xEE; 33]);
     assert_eq!(normalize(&input, &mut out), Ok(33));
     assert_eq!(out[..], expected);

@@ -1,4 +1,4 @@
--- `section_count` meets its contract: what `chain::not_block` lets through is left to the chain check. Assumes nothing.
+-- `section_count` meets its contract: what `not_block` lets through is left to the chain check. Assumes nothing.
 use mathlib.Core.Path.{sym, _∙_}
 use lib.ListN.{length}
 use Rattle.block.proofs.Finding.{block-room, block-counted, block-refused}

@@ -1,10 +1,10 @@
--- `size::element_size` meets its contract: each arm is a line of the table. Assumes nothing.
+-- `element_size` meets its contract: each arm is a line of the table. Assumes nothing.
 use mathlib.Core.Path.{sym, ap}
 use borrow.Author.Tests.{ne-eqb}
 use Rattle.basics.specs.Choice.{choose}
 use Rattle.block.specs.Element.{elementSize}
-use Rattle.block.proofs.size.element_size.Statement.{statement}
-use Rattle.block.proofs.size.element_size.Tie as tie
+use Rattle.block.proofs.element_size.Statement.{statement}
+use Rattle.block.proofs.element_size.Tie as tie
 
 returns : tie.Need-returns
 unfolding elementSize choose

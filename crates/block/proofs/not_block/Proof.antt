@@ -1,8 +1,8 @@
--- `chain::not_block` meets its contract: at each `return` the tests that led there decide the refusal. Assumes nothing.
+-- `not_block` meets its contract: at each `return` the tests that led there decide the refusal. Assumes nothing.
 use borrow.Author.Tests.{eq-eqb, ne-eqb}
 use Rattle.block.specs.Answer.{notBlock}
-use Rattle.block.proofs.chain.not_block.Statement.{statement}
-use Rattle.block.proofs.chain.not_block.Tie as tie
+use Rattle.block.proofs.not_block.Statement.{statement}
+use Rattle.block.proofs.not_block.Tie as tie
 
 returns : tie.Need-returns
 unfolding notBlock
