@@ -4,3 +4,4 @@ pub mod Counting
 pub mod Finding
 pub mod Elements
 pub mod Laws
+pub mod Samples

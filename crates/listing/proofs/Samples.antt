@@ -2,14 +2,16 @@
 use Prim.Native.Nat.{ℕ}
 use mathlib.Core.Path.{_≡_, refl}
 use mathlib.Core.List.{List, [], _∷_, _++_}
+use lib.ListN.{replicate}
 use Rattle.basics.specs.Choice.{choose}
 use Rattle.checksum.specs.Checksum.{checksumFrom}
 use Rattle.septet.specs.Septet.{withTopBits}
 use Rattle.stream.specs.Layout.{kindOf, headerLength, frameWidth, frameCount, streamLength}
 use Rattle.stream.specs.Validation.{frameRule, headerRule, ruleAt, breach, faultAt, validationFrom}
-use Rattle.record.specs.Record.{recordOf, commandIn, payloadIn, unframed}
+use Rattle.record.specs.Record.{Record, recordOf, commandIn, payloadIn, unframed}
 use Rattle.recording.specs.Recording.{deliveriesFrom}
-use Rattle.listing.specs.Line.{bytesHex, commandHex, payloadHex, headHex, lineOf, linesOf, listingOf}
+use Rattle.listing.specs.declared.Listed.the-variants.{Written, OutputTooShort}
+use Rattle.listing.specs.Line.{bytesHex, commandHex, payloadHex, headHex, lineOf, linesOf, listingOf, answerOf, refusal, listedOf, outputAfter}
 
 -- AA 11 44 10 66 10 00 02 01 21 07 04 0F 00 00 65
 p1 : List ℕ
@@ -39,3 +41,55 @@ telegram = 0x54 ∷ 0x20 ∷ 0x37 ∷ 0x37 ∷ 0x33 ∷ 0x31 ∷ 0x20 ∷ 0x32 �
 example : listingOf (p1 ++ (d1 ++ t2)) ≡ packet ++ (datagram ++ telegram)
 unfolding p1 d1 t2 packet datagram telegram linesOf lineOf headHex payloadHex commandHex bytesHex deliveriesFrom recordOf commandIn payloadIn unframed withTopBits validationFrom streamLength kindOf choose headerLength frameWidth frameCount faultAt breach ruleAt headerRule frameRule checksumFrom
 example = refl
+
+-- every digit: 0123456789ABCDEF
+digits : bytesHex (0x01 ∷ 0x23 ∷ 0x45 ∷ 0x67 ∷ 0x89 ∷ 0xAB ∷ 0xCD ∷ 0xEF ∷ []) ≡ 0x30 ∷ 0x31 ∷ 0x32 ∷ 0x33 ∷ 0x34 ∷ 0x35 ∷ 0x36 ∷ 0x37 ∷ 0x38 ∷ 0x39 ∷ 0x41 ∷ 0x42 ∷ 0x43 ∷ 0x44 ∷ 0x45 ∷ 0x46 ∷ []
+unfolding bytesHex choose
+digits = refl
+
+-- a line with no payload, which ends after the command: X ABCD EF01 version command
+abbrev without : ℕ → ℕ → List ℕ
+without version command =
+    lineOf (record { header = record { version = version; destination = 0xABCD; source = 0xEF01; command = command }; payload = [] })
+
+abbrev addresses : List ℕ
+addresses = 0x20 ∷ 0x41 ∷ 0x42 ∷ 0x43 ∷ 0x44 ∷ 0x20 ∷ 0x45 ∷ 0x46 ∷ 0x30 ∷ 0x31 ∷ 0x20 ∷ []
+
+-- a packet's and a datagram's command takes four digits, a telegram's two
+packet-0023 : without 0x10 0x23 ≡ 0x50 ∷ (addresses ++ (0x31 ∷ 0x30 ∷ 0x20 ∷ 0x30 ∷ 0x30 ∷ 0x32 ∷ 0x33 ∷ 0x0A ∷ []))
+unfolding lineOf headHex payloadHex commandHex kindOf choose
+packet-0023 = refl
+
+datagram-0023 : without 0x20 0x23 ≡ 0x44 ∷ (addresses ++ (0x32 ∷ 0x30 ∷ 0x20 ∷ 0x30 ∷ 0x30 ∷ 0x32 ∷ 0x33 ∷ 0x0A ∷ []))
+unfolding lineOf headHex payloadHex commandHex kindOf choose
+datagram-0023 = refl
+
+telegram-7F : without 0x31 0x7F ≡ 0x54 ∷ (addresses ++ (0x33 ∷ 0x31 ∷ 0x20 ∷ 0x37 ∷ 0x46 ∷ 0x0A ∷ []))
+unfolding lineOf headHex payloadHex commandHex kindOf choose
+telegram-7F = refl
+
+-- each answer, and the room that a line of 18 bytes needs
+written : answerOf (Written 9) ≡ record { number = 0; length = 9 }
+written = refl
+
+too-short : answerOf OutputTooShort ≡ record { number = 5; length = 0 }
+too-short = refl
+
+shortest : Record
+shortest = record { header = record { version = 0x30; destination = 0; source = 0; command = 0 }; payload = [] }
+
+room-18 : listedOf shortest 18 ≡ record { number = 0; length = 18 }
+unfolding shortest refusal lineOf headHex payloadHex commandHex kindOf choose
+room-18 = refl
+
+room-17 : listedOf shortest 17 ≡ record { number = 5; length = 0 }
+unfolding shortest refusal lineOf headHex payloadHex commandHex kindOf choose
+room-17 = refl
+
+output-20 : outputAfter shortest (replicate 20 0xEE) ≡ lineOf shortest ++ (0xEE ∷ 0xEE ∷ [])
+unfolding shortest refusal lineOf headHex payloadHex commandHex kindOf choose
+output-20 = refl
+
+output-17 : outputAfter shortest (replicate 17 0xEE) ≡ replicate 17 0xEE
+unfolding shortest refusal lineOf headHex payloadHex commandHex kindOf choose
+output-17 = refl

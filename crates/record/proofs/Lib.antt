@@ -5,3 +5,4 @@ pub mod Frames
 pub mod Carried
 pub mod Written
 pub mod ReadBack
+pub mod Samples

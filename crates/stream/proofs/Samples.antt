@@ -1,9 +1,12 @@
 -- Samples of document 01, computed. Every law holds as well of another version number: the samples tie the definitions to the paper.
+use Prim.Native.Nat.{ℕ, zero, suc}
 use mathlib.Core.Path.{_≡_, refl}
-use mathlib.Core.List.{List, [], _∷_}
+use mathlib.Core.List.{List, [], _∷_, _++_, map}
+use lib.ListN.{replicate}
 use Rattle.basics.specs.Choice.{choose}
 use Rattle.checksum.specs.Checksum.{checksumFrom}
-use Rattle.stream.specs.Layout.{kindOf, headerLength, frameWidth, frameCount, streamLength}
+use Rattle.stream.specs.Layout.{kindOf, headerLength, frameWidth, telegramFrames, frameCount, streamLength}
+use Rattle.stream.specs.declared.Kind.the-variants.{Packet, Datagram, Telegram, Unknown}
 use Rattle.stream.specs.Validation.{frameRule, headerRule, ruleAt, breach, faultAt, validationFrom, validationOf}
 
 -- T1 under each version of a telegram, with its checksum
@@ -14,3 +17,17 @@ telegram = refl
 telegram-31 : validationOf (0xAA ∷ 0x10 ∷ 0x20 ∷ 0x31 ∷ 0x77 ∷ 0x31 ∷ 0x01 ∷ 0x75 ∷ []) ≡ record { number = 0; offset = 8 }
 unfolding validationFrom streamLength kindOf choose headerLength frameWidth frameCount faultAt breach ruleAt headerRule frameRule checksumFrom
 telegram-31 = refl
+
+-- n numbers, from k on
+abbrev from : ℕ → ℕ → List ℕ
+from zero k = []
+from (suc n) k = k ∷ from n (suc k)
+
+-- every version byte: 0x10 a packet, 0x20 a datagram, 0x30 and 0x31 telegrams, and no other
+versions : map kindOf (from 256 0) ≡ replicate 16 Unknown ++ (Packet ∷ (replicate 15 Unknown ++ (Datagram ∷ (replicate 15 Unknown ++ (Telegram ∷ Telegram ∷ replicate 206 Unknown)))))
+unfolding kindOf choose
+versions = refl
+
+-- F is bits 5-6 of the command, and no other bit
+frames : map telegramFrames (0x1F ∷ 0x20 ∷ 0x40 ∷ 0x7F ∷ 0x80 ∷ []) ≡ 0 ∷ 1 ∷ 2 ∷ 3 ∷ 0 ∷ []
+frames = refl
