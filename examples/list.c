@@ -2,8 +2,8 @@
  * Lists the records of a VBus recording, one a line: kind letter, destination, source, version, command, payload, in
  * upper-case hex. Like the lister it takes at most 65,536 bytes, and answers `too long` where there are more.
  *
- *   gcc -std=c99 -Iinclude examples/list.c target/staticlib/libvbus.a -o list
- *   list RECORDING, or list <RECORDING
+ *   gcc -std=c99 -Iinclude examples/list.c target/staticlib/libvbus.a -o list-c
+ *   ./list-c RECORDING, or ./list-c <RECORDING
  *
  * Exit status: 0 done; 1 the recording can't be read or the listing can't be written; 2 wrong arguments.
  */

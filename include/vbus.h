@@ -3,9 +3,11 @@
  * C99 and C++. Link with target/staticlib/libvbus.a (x86-64, System V calling convention).
  *
  * Memory. No heap, no globals, nothing kept between calls: every function may be called from several threads and from
- * signal handlers at once. The archive needs nothing from outside.
- * Stack: at most 185 bytes (vbus_next), but up to 6,360 for the four section functions, which call themselves once
- * a section: 48 bytes each, 127 sections at most. tests/stack measures it. docs/BENCHMARKS.md has the speeds.
+ * signal handlers at once. No function keeps an unfinished stream between calls: where bytes arrive one by one, the
+ * caller gathers them. The archive needs nothing from outside.
+ * Stack: at most 256 bytes, but up to 6,400 for the four section functions, which call themselves once a section:
+ * 48 bytes each, 127 sections at most. tests/stack holds both limits. It measures by painting: the stack is filled
+ * with a pattern before a call, and the lowest byte touched counts. docs/BENCHMARKS.md has the speeds.
  *
  * Pointers. A pointer comes with the number of bytes behind it, and nothing beyond them is read or written.
  *  - With a count above 0 the pointer must not be NULL. With count 0 it isn't read or written, and NULL is fine.
@@ -133,12 +135,13 @@ int32_t vbus_value(const uint8_t payload[6]);
  * header of 4 bytes (payload frames f, type, two reserved bytes) and 4f bytes. Sections and elements count from 0.
  * Elements have 2 bytes in type 0x01 (temperatures), 4 in 0x05 (heat quantities), 1 in 0x08 (relay speeds), 8 in
  * 0x0A (smart display), 4 in 0x0B, 0x0C and 0x0D (masks). Bytes left over behind the last element are ignored.
+ * A temperature's two bytes are a signed 16-bit number, low byte first; no function here reads it.
  * All four functions:
  *   8  the header isn't a block packet's, or n isn't a multiple of 4 or is above 508
  *   9  some section runs past the payload's end
  */
 
-/* How many sections the payload has. No payload has none. */
+/* How many sections the payload has. An empty payload has none. */
 vbus_count vbus_section_count(vbus_header header, const uint8_t *payload, size_t n);
 
 /* Where a section is, its header and its payload.

@@ -4,7 +4,9 @@
  * called from the same place, is taken off; so a figure holds the export's own return address and all that it calls.
  * Every input runs with two patterns, as a byte written may happen to equal one of them.
  *
- *   stack LIMIT RECORDING..    exit status 1 if an export uses more than LIMIT bytes
+ *   stack LIMIT SECTIONS-LIMIT RECORDING..
+ *
+ * Exit status: 1 if an export uses more than LIMIT bytes, or a section function more than SECTIONS-LIMIT.
  */
 #define _XOPEN_SOURCE 700
 #include <stdio.h>
@@ -160,7 +162,7 @@ static void recording(size_t n) {
     call.start = 0;
     measure(CHECKSUM);
     measure(VALIDATE);
-    /* room for all; too little; just enough for no record: each ends another way */
+    /* room for all; for nothing; for the payload of a short record, but for no stream: each ends another way */
     static const size_t rooms[3] = {sizeof out, 0, 7};
     for (int i = 0; i < 3; i++) {
         call.room = rooms[i];

@@ -44,22 +44,27 @@ located lines start n =
 abbrev pub shown : List (Bool × ℕ) → List ℕ → List ℕ
 shown lines bytes = choose (eqb (first lines) 0) bytes []
 
+-- how many sections there are
 abbrev pub sectionCount : Header → List ℕ → Count
 sectionCount header payload = counted (blockLines header payload) (length (sectionsOf payload))
 
+-- where section k stands, header and payload
 abbrev pub sectionFound : Header → List ℕ → ℕ → Part
 sectionFound header payload k = located (sectionLines header payload k) (startOf payload k) (length (sectionAt payload k))
 
--- the section's header and payload
+-- "The answer shows the section's header and payload as one part of the caller's payload"
 abbrev pub sectionShown : Header → List ℕ → ℕ → List ℕ
 sectionShown header payload k = shown (sectionLines header payload k) (sectionAt payload k)
 
+-- how many elements section k has
 abbrev pub elementCount : Header → List ℕ → ℕ → Count
 elementCount header payload k = counted (typeLines header payload k) (elementsIn (sectionAt payload k))
 
+-- where element i of section k stands
 abbrev pub elementFound : Header → List ℕ → ℕ → ℕ → Part
 elementFound header payload k i =
     located (elementLines header payload k i) (startOf payload k + offsetIn (sectionAt payload k) i) (sizeIn (sectionAt payload k))
 
+-- "an element lookup shows the element's bytes in the same way"
 abbrev pub elementShown : Header → List ℕ → ℕ → ℕ → List ℕ
 elementShown header payload k i = shown (elementLines header payload k i) (elementAt (sectionAt payload k) i)

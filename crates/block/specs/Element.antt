@@ -22,6 +22,7 @@ elementSize type =
     ∷ []
     )
 
+-- the size of an element, by the section's type
 abbrev pub sizeIn : List ℕ → ℕ
 sizeIn section = elementSize (typeOf section)
 
@@ -33,6 +34,7 @@ elementsIn section = 4 * framesIn section / sizeIn section
 abbrev pub offsetIn : List ℕ → ℕ → ℕ
 offsetIn section i = 4 + i * sizeIn section
 
+-- elements are numbered from 0
 abbrev pub elementAt : List ℕ → ℕ → List ℕ
 elementAt section i = take (sizeIn section) (drop (offsetIn section i) section)
 

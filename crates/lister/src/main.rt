@@ -45,7 +45,7 @@ fn next_line(recording: &[u8], at: usize, line: &mut [u8]) -> Step
     }
 }
 
-// Prints line after line. By the promise of `next_line`, one behind the other they are the listing.
+// Prints line after line. By the promise of `next_line` they are, one behind the other, the listing (law `run-lists`).
 fn list(recording: &[u8]) {
     // No line of a delivered record is longer.
     let mut space = [0u8; 1037];

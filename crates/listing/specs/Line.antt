@@ -71,7 +71,7 @@ unfoldable pub linesOf : List Record → List ℕ
 linesOf [] = []
 linesOf (r ∷ rest) = lineOf r ++ linesOf rest
 
--- what the lister prints for a recording
+-- what the lister prints for a recording of at most 65,536 bytes
 abbrev pub listingOf : List ℕ → List ℕ
 listingOf s = linesOf (records s)
 
@@ -91,8 +91,10 @@ answerOf a = record { number = number a; length = lengthIn a }
 unfoldable pub refusal : Record → ℕ → ℕ
 refusal r room = first (tooShort room (lineOf r) ∷ [])
 
+-- what is answered for an output of the given room
 abbrev pub listedOf : Record → ℕ → Answer
 listedOf r room = answered (refusal r room) (lineOf r)
 
+-- the output afterwards
 abbrev pub outputAfter : Record → List ℕ → List ℕ
 outputAfter r out = outputWith (refusal r (length out)) (lineOf r) out

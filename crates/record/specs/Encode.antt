@@ -84,8 +84,10 @@ pub record Writable (r : Record) : Type 0 where
 unfoldable pub refusal : Record → ℕ → ℕ
 refusal r room = first (linesAs (kindOf (r .header .version)) r ++ (tooShort room (streamOf r) ∷ []))
 
+-- what is answered for an output of the given room
 abbrev pub encodingOf : Record → ℕ → Answer
 encodingOf r room = answered (refusal r room) (streamOf r)
 
+-- the output afterwards
 abbrev pub outputAfter : Record → List ℕ → List ℕ
 outputAfter r out = outputWith (refusal r (length out)) (streamOf r) out

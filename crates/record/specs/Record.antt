@@ -70,6 +70,7 @@ framesOf Datagram command n = 0
 framesOf Telegram command n = telegramFrames command
 framesOf Unknown command n = 0
 
+-- the frame count of a record
 abbrev pub framesIn : Kind → Record → ℕ
 framesIn K r = framesOf K (r .header .command) (length (r .payload))
 
@@ -84,6 +85,7 @@ kindBytes Datagram r = wordBytes (r .header .command) ++ withSeptet (r .payload)
 kindBytes Telegram r = r .header .command ∷ []
 kindBytes Unknown r = []
 
+-- 0xAA, the header with its checksum, and the frames: of a record that is taken as one of a kind
 unfoldable pub streamAs : Kind → Record → List ℕ
 streamAs K r = 0xAA ∷ (withChecksum (addressBytes (r .header) ++ kindBytes K r) ++ framed (frameWidth K) (framesIn K r) (r .payload))
 

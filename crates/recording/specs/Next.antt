@@ -61,9 +61,11 @@ unfoldable pub refusal : List ℕ → ℕ → ℕ → ℕ
 refusal s start room =
     first ((ltb (length s) start, 6) ∷ tooShort room (payloadOf (deliveriesAfter s start)) ∷ [])
 
+-- what is answered, from a starting place on, for an output of the given room
 abbrev pub nextOf : List ℕ → ℕ → ℕ → Answer
 nextOf s start room =
     choose (eqb (refusal s start room) 0) (firstOf (deliveriesAfter s start)) (without (refusal s start room))
 
+-- the output afterwards
 abbrev pub outputAfter : List ℕ → ℕ → List ℕ → List ℕ
 outputAfter s start out = outputWith (refusal s start (length out)) (payloadOf (deliveriesAfter s start)) out

@@ -34,8 +34,10 @@ answerOf e = record { number = number e; length = lengthIn e }
 unfoldable pub refusal : List ℕ → ℕ → ℕ
 refusal s room = first (tooShort room (normalized s) ∷ [])
 
+-- what is answered for an output of the given room
 abbrev pub normalizingOf : List ℕ → ℕ → Answer
 normalizingOf s room = answered (refusal s room) (normalized s)
 
+-- the output afterwards
 abbrev pub outputAfter : List ℕ → List ℕ → List ℕ
 outputAfter s out = outputWith (refusal s (length out)) (normalized s) out

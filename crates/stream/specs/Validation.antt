@@ -80,6 +80,7 @@ validationFrom s k (byte ∷ rest) =
     choose (eqb k (streamLength s)) (record { number = 0; offset = k })
     (choose (eqb (faultAt s k) 0) (validationFrom s (suc k) rest) (record { number = faultAt s k; offset = k }))
 
+-- what is said of a stretch, from its first byte on
 abbrev pub validationOf : List ℕ → Answer
 validationOf s = validationFrom s 0 s
 

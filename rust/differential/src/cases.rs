@@ -431,6 +431,7 @@ impl Checker {
             input.extend(stream);
             input.push(0xAA);
         }
+        self.recording(&input)?;
         for start in (0..input.len() + 3).chain([usize::MAX - 1, usize::MAX]) {
             for room in 0..24 {
                 self.next(&input, start, room)?;
