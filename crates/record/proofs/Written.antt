@@ -16,7 +16,7 @@ use Rattle.stream.specs.Layout.{kind, headerLength, frameWidth, frameCount, len
 use Rattle.stream.specs.Validation.{validationOf}
 use Rattle.stream.specs.declared.Kind.{Kind}
 use Rattle.stream.specs.declared.Kind.the-variants.{Packet, Datagram, Telegram, Unknown}
-use Rattle.stream.proofs.Headers.{headerLength-most, length-as}
+use Rattle.stream.proofs.Headers.{headerLength-least, length-as}
 use Rattle.stream.proofs.Reached.{whole-clean}
 use Rattle.stream.proofs.Whole.{WholeAs, FrameRight, whole-of-clean, drop-frame}
 use Rattle.record.specs.Encode.{isUnknown, InRange, Writable}
@@ -57,10 +57,10 @@ module _ (K : Kind) (s : List ℕ) (whole : WholeAs K s) where
   header-low k pos h = whole .low k pos (omega arith)
 
   address-low : (k : ℕ) → 0 < k → k < 6 → getD s k 0 < 128
-  address-low k pos h = header-low k pos (omega (arith, headerLength-most K))
+  address-low k pos h = header-low k pos (omega (arith, headerLength-least K))
 
   frames-low : (k : ℕ) → k < (frameWidth K + 2) * frameCount K s → getD (drop (headerLength K) s) k 0 < 128
-  frames-low k h = rw (getD-drop (headerLength K) s k 0) (whole .low (headerLength K + k) (omega (arith, headerLength-most K)) (omega arith))
+  frames-low k h = rw (getD-drop (headerLength K) s k 0) (whole .low (headerLength K + k) (omega (arith, headerLength-least K)) (omega arith))
 
   frames-right : (f : ℕ) → f < frameCount K s → FrameRight (frameWidth K) (drop (headerLength K) s) ((frameWidth K + 2) * f)
   frames-right f h = drop-frame (frameWidth K) s (headerLength K) ((frameWidth K + 2) * f) (whole .frames f h)
@@ -213,7 +213,7 @@ header-again K s whole held =
     let k = kind-again K s whole held in
     let n = 5 + k .size in
     let body : addressBytes (recordAs K s .header) ++ kindBytes K (recordAs K s) ≡ take n (drop 1 s) =
-    ap₂ _++_ (address-again K s whole ∙ sym (cells-take s 1 5 (omega (arith, headerLength-most K)))) (k .bytes) ∙ join s 1 5 (k .size) in
+    ap₂ _++_ (address-again K s whole ∙ sym (cells-take s 1 5 (omega (arith, headerLength-least K)))) (k .bytes) ∙ join s 1 5 (k .size) in
     let place : 1 + n ≡ 6 + k .size = omega arith in
     let sum : getD (drop 1 s) n 0 ≡ checksumOf (take n (drop 1 s)) = rw (getD-drop 1 s n 0, place) (k .sum) in
     let behind : withChecksum (take n (drop 1 s)) ≡ take (n + 1) (drop 1 s) =

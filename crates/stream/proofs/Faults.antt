@@ -119,6 +119,10 @@ pub frame-low : (width : ℕ) (part : List ℕ) (i : ℕ) → getD part i 0 < 0x
 unfolding frameFault choose
 frame-low width part i h = simp (lt-leb _ _ h)
 
+pub frame-low-held : (width : ℕ) (part : List ℕ) (i : ℕ) → frameFault width part i ≡ 0 → getD part i 0 < 0x80
+frame-low-held width part i e =
+    dite (decLt (getD part i 0) 0x80) (λ low. low) (λ high. absurd (omega (arith, frame-high width part i (omega arith))))
+
 pub fault-high : (s : List ℕ) (k : ℕ) → 0 < k → 0x80 ≤ getD s k 0 → faultAt s k ≡ 2
 unfolding faultAt choose
 fault-high s k p h = simp (ne-eqb k 0 (λ e. omega arith), le-leb _ _ h)

@@ -3,8 +3,8 @@ use Prim.Native.Nat.{ℕ, suc, _+_, _-_, _*_, _≤_, _<_}
 use native.Mathlib.Omega.{arith}
 use native.Mathlib.Decide.{decLt}
 use native.Mathlib.Nat.{mul-zero, mul-suc, zero-add, add-zero, eq-zero-or-pos}
-use mathlib.Core.Path.{_≡_, refl, ap, _∙_, sym, subst, subst⁻¹}
-use mathlib.Core.Logic.{⊎-elim, dite}
+use mathlib.Core.Path.{_≡_, refl, ap, _∙_, sym, subst}
+use mathlib.Core.Logic.{⊎-elim, dite, _↔_}
 use mathlib.Core.List.{List}
 use lib.ListN.{length, getD, take, drop, length-drop}
 use lib.Seq.{length-take-le}
@@ -12,8 +12,8 @@ use Rattle.checksum.specs.Checksum.{checksumOf}
 use Rattle.septet.specs.Septet.{unusedBits}
 use Rattle.stream.specs.Layout.{kind, streamLength}
 use Rattle.stream.specs.Validation.{frameRule, ruleAt, breach, faultAt}
-use Rattle.stream.specs.Stage.{Clean, Reached, whole, found, frameFault, AllLow, FirstHigh, Lesser, FramesFrom}
-use Rattle.stream.proofs.Faults.{place-any, place-septet, place-sum, by-place, septet-right, septet-wrong, frameSum-right, frameSum-wrong, frame-high, frame-low, frame-part, breach-any, stop-reached}
+use Rattle.stream.specs.Stage.{Clean, Reached, whole, found, frameFault, AllLow, FirstHigh, Lesser, FramesFrom, RightUpTo}
+use Rattle.stream.proofs.Faults.{place-any, place-septet, place-sum, by-place, septet-right, septet-wrong, septet-held, frameSum-right, frameSum-wrong, frameSum-held, frame-high, frame-low, frame-low-held, frame-part, breach-any, stop-reached}
 use Rattle.stream.proofs.Reached.{through, joined, moved}
 
 -- ── one frame by itself
@@ -71,22 +71,42 @@ frame-right width part long low septet sum = through (frame-whole width first (o
     first : FirstHigh part 0 (width + 2) (width + 2)
     first = record { after = omega arith; before = omega arith; within = omega arith; low = λ i h above. low i (omega arith); high = λ short inside. absurd (omega arith) }
 
+-- and one that has no fault passes them
+module _ (width : ℕ) (part : List ℕ) (clean : Clean (frameFault width part) (width + 2)) where
+  kept : (i : ℕ) → i < width + 2 → breach (frameRule width i) part i ≡ 0
+  kept i inside = sym (frame-low width part i (frame-low-held width part i (clean i inside))) ∙ clean i inside
+
+  pub clean-low : length part ≡ width + 2 → AllLow part
+  clean-low long i h = frame-low-held width part i (clean i (omega arith))
+
+  pub clean-septet : SeptetRight width part
+  clean-septet = septet-held width part width (rw place-septet at (kept width (omega arith)))
+
+  pub clean-sum : SumRight width part
+  clean-sum = rw zero-add at (frameSum-held width part 0 (rw zero-add (rw place-sum at (kept (width + 1) (omega arith)))))
+
 -- ── the frames of a stream, from one on
 
--- only the end cuts a frame off
-pub lesser-cut : {a b r : ℕ} → Lesser a b r → r < a → r ≡ b
-lesser-cut {a} {b} {r} lesser short =
-    dite (decLt r b) (λ less. absurd (omega (arith, lesser .most (r + 1) (omega arith) (omega arith)))) (λ no. omega (arith, lesser .right))
-
--- the m bytes from a on
+-- the bytes from a up to e
 abbrev pub partOf : List ℕ → ℕ → ℕ → List ℕ
-partOf s a m = take m (drop a s)
+partOf s a e = take (e - a) (drop a s)
 
-pub length-part : (s : List ℕ) (a m : ℕ) → a + m ≤ length s → length (partOf s a m) ≡ m
-length-part s a m inside = length-take-le m (drop a s) (simp length-drop (omega arith))
+pub length-part : (s : List ℕ) (a e : ℕ) → e ≤ length s → length (partOf s a e) ≡ e - a
+length-part s a e inside = length-take-le (e - a) (drop a s) (simp length-drop (omega arith))
 
 module _ (s : List ℕ) (a width end : ℕ) (frames : FramesFrom s a width end) where
-  -- past the last frame
+  same : (e i : ℕ) → i < width + 2 → a + i < e → faultAt s (a + i) ≡ frameFault width (partOf s a e) i
+  same e i inside there =
+      frame-part width s a (e - a) i (omega (arith, frames .after)) (rw (mul-zero, add-zero) at (frames .rules 0 i inside)) inside (omega arith)
+
+  -- the first of them has no fault exactly if the stream has none up to that frame's end
+  pub first-clean : (e : ℕ) → a + (width + 2) ≤ e → Clean (frameFault width (partOf s a e)) (width + 2) ↔ Clean (faultAt s) (a + (width + 2))
+  first-clean e long = (
+    joined (faultAt s) (frameFault width (partOf s a e)) a (width + 2) (frames .clean) (λ i inside. same e i inside (omega arith)),
+    λ clean i inside. sym (same e i inside (omega arith)) ∙ clean (a + i) (omega arith),
+  )
+
+  -- past the last of them
   pub frames-end : end ≤ a → Reached (faultAt s) (streamLength s) (length s) 0 a
   frames-end past =
       let last : a ≡ streamLength s = omega (arith, frames .ends, frames .total) in
@@ -96,32 +116,33 @@ module _ (s : List ℕ) (a width end : ℕ) (frames : FramesFrom s a width end) 
     one-more : (n : ℕ) × (frames .count ≡ suc n)
     one-more = (frames .count - 1, ⊎-elim (λ none. absurd (omega (arith, frames .ends, ap (λ (n : ℕ). (width + 2) * n) none, mul-zero (width + 2)))) (λ pos. omega arith) (eq-zero-or-pos (frames .count)))
 
-    room : a + (width + 2) ≤ end
+    room : end ≡ a + (width + 2) + (width + 2) * (one-more .0)
     room = omega (arith, frames .ends, ap (λ (n : ℕ). (width + 2) * n) (one-more .1), mul-suc (width + 2) (one-more .0))
 
-    same : (m i : ℕ) → i < width + 2 → i < m → faultAt s (a + i) ≡ frameFault width (partOf s a m) i
-    same m i inside there =
-        frame-part width s a m i (omega (arith, frames .after)) (rw (mul-zero, add-zero) at (frames .rules 0 i inside)) inside there
-
-    -- a fault in the first of them, or the end
-    pub frames-stop : (m v k : ℕ) → a + m ≤ length s → Reached (frameFault width (partOf s a m)) (width + 2) (length (partOf s a m)) v k
-        → (m < width + 2 → a + m ≡ length s) → k < width + 2 → Reached (faultAt s) (streamLength s) (length s) v (a + k)
-    frames-stop m v k inside reached cut short =
-        moved (faultAt s) (frameFault width (partOf s a m)) a (width + 2) (streamLength s) (length s) m v k (frames .clean)
-        (λ i in-frame there. same m i in-frame there) (omega (arith, room, frames .total)) inside cut
-        (subst (λ (n : ℕ). Reached (frameFault width (partOf s a m)) (width + 2) n v k) (length-part s a m inside) reached)
-        short
-
     -- the first of them is right: what follows it
-    pub frames-next : (m : ℕ) → a + m ≤ length s → width + 2 ≤ m → Clean (frameFault width (partOf s a m)) (width + 2) → FramesFrom s (a + (width + 2)) width end
-    frames-next m inside long right =
+    pub frames-next : a + (width + 2) ≤ length s → Clean (faultAt s) (a + (width + 2)) → FramesFrom s (a + (width + 2)) width end
+    frames-next inside clean =
         record {
-          there = omega arith;
-          clean = joined (faultAt s) (frameFault width (partOf s a m)) a (width + 2) (frames .clean) (λ i in-frame. same m i in-frame (omega arith)) right;
+          there = inside;
+          clean = clean;
           after = omega arith;
           narrow = frames .narrow;
           count = one-more .0;
-          ends = omega (arith, frames .ends, ap (λ (n : ℕ). (width + 2) * n) (one-more .1), mul-suc (width + 2) (one-more .0));
+          ends = room;
           total = frames .total;
           rules = λ j i h. subst (λ (n : ℕ). ruleAt (kind s) (n + i) ≡ frameRule width i) (omega (arith, mul-suc (width + 2) j)) (frames .rules (suc j) i h);
         }
+
+-- the first of them isn't right: what it brings, up to its end or the input's, the stream brings
+pub frames-stop : (s : List ℕ) (a width end e : ℕ) {v k : ℕ} → RightUpTo s a width end → a < end → Lesser (a + (width + 2)) (length s) e
+    → Reached (frameFault width (partOf s a e)) (width + 2) (length (partOf s a e)) v k → Reached (faultAt s) (streamLength s) (length s) v (a + k)
+frames-stop s a width end e {v} {k} right more lesser reached =
+    let frames = right .frames in
+    let starts = lesser .most a (omega arith) (frames .there) in
+    let size = length-part s a e (lesser .right) in
+    moved (faultAt s) (frameFault width (partOf s a e)) a (width + 2) (streamLength s) (length s) (length (partOf s a e)) v k (frames .clean)
+    (λ i inside there. same s a width end frames e i inside (omega arith))
+    (omega (arith, room s a width end frames more, frames .total)) (omega (arith, lesser .right))
+    (λ cut. dite (decLt e (length s)) (λ less. absurd (omega (arith, lesser .most (suc e) (omega arith) less))) (λ no. omega (arith, lesser .right)))
+    (λ long clean. right .stops more (omega (arith, lesser .right)) (first-clean s a width end frames e (omega arith) .0 clean))
+    reached

@@ -47,15 +47,15 @@ pub length-as : (s : List ℕ) (K : Kind) → kind s ≡ K → streamLength s �
 unfolding streamLength
 length-as s K e = ap (λ (x : Kind). lengthAs x s) e
 
-pub headerLength-most : (K : Kind) → 5 < headerLength K
+pub headerLength-least : (K : Kind) → 5 < headerLength K
 unfolding headerLength
-headerLength-most Packet = omega arith
-headerLength-most Datagram = omega arith
-headerLength-most Telegram = omega arith
-headerLength-most Unknown = omega arith
+headerLength-least Packet = omega arith
+headerLength-least Datagram = omega arith
+headerLength-least Telegram = omega arith
+headerLength-least Unknown = omega arith
 
 pub at-least-six : (s : List ℕ) → 6 ≤ streamLength s
-at-least-six s = omega (arith, headerLength-most (kind s), length-as s (kind s) refl)
+at-least-six s = omega (arith, headerLength-least (kind s), length-as s (kind s) refl)
 
 -- ── what a look at the bytes behind the version reaches
 
@@ -234,7 +234,7 @@ module _ (s : List ℕ) (sync : getD s 0 0 ≡ 0xAA) (stop : ℕ) (first : First
   address-clean-to k below near i h =
       dite (ℕ-discrete i 0)
       (λ e. subst⁻¹ (λ (n : ℕ). faultAt s n ≡ 0) e (sync-right s sync))
-      (λ ne. fault-low s i (omega arith) (first .low i (omega arith) (omega arith)) ∙ breach-any _ s i (rule-header (kind s) i (omega (arith, headerLength-most (kind s))) ∙ address-any (kind s) i (omega arith)))
+      (λ ne. fault-low s i (omega arith) (first .low i (omega arith) (omega arith)) ∙ breach-any _ s i (rule-header (kind s) i (omega (arith, headerLength-least (kind s))) ∙ address-any (kind s) i (omega arith)))
 
   pub address-stops : (r : Validation) → stop < 6 → StoppedAt s stop r → ReachedTo s (streamLength s) r
   address-stops r short stopped =

@@ -109,16 +109,16 @@ joined fault part a m clean same rest i h =
     (λ short. clean i short)
     (λ long. subst (λ (k : ℕ). fault k ≡ 0) (omega arith) (same (i - a) (omega arith) ∙ rest (i - a) (omega arith)))
 
--- what is reached in a part that starts at a, and that only the end cuts off
+-- what is reached in a part that starts at a, that only the end cuts off, and that isn't right
 pub moved : (fault part : ℕ → ℕ) (a m total n count v k : ℕ)
     → Clean fault a → ((i : ℕ) → i < m → i < count → fault (a + i) ≡ part i) → a + m ≤ total
-    → a + count ≤ n → (count < m → a + count ≡ n)
-    → Reached part m count v k → k < m → Reached fault total n v (a + k)
-moved fault part a m total n count v k clean same room within cut (whole z o rest inside) short = absurd (omega arith)
-moved fault part a m total n count v k clean same room within cut (ended z o rest below) short =
+    → a + count ≤ n → (count < m → a + count ≡ n) → (m ≤ count → Clean part m → ⊥)
+    → Reached part m count v k → Reached fault total n v (a + k)
+moved fault part a m total n count v k clean same room within cut wrong (whole z o rest inside) = absurd (wrong inside rest)
+moved fault part a m total n count v k clean same room within cut wrong (ended z o rest below) =
     let end = cut below in
     ended z (omega arith) (subst (Clean fault) end (joined fault part a count clean (λ i h. same i (omega arith) h) rest)) (omega arith)
-moved fault part a m total n count v k clean same room within cut (found e bad rest below inside) short =
+moved fault part a m total n count v k clean same room within cut wrong (found e bad rest below inside) =
     found (same k below inside ∙ e) bad (joined fault part a k clean (λ i h. same i (omega arith) (omega arith)) rest) (omega arith) (omega arith)
 
 -- ── a whole stream

@@ -21,7 +21,7 @@ use Rattle.stream.specs.Stage.{Clean}
 use Rattle.stream.specs.declared.Kind.{Kind}
 use Rattle.stream.specs.declared.Kind.the-variants.{Packet, Datagram, Telegram, Unknown}
 use Rattle.stream.proofs.Faults.{frameBase, rule-header, rule-frame, place-any, place-septet, place-sum, by-place, unknown-held, septet-right, septet-held, headerSum-right, headerSum-held, frameSum-right, frameSum-held, sync-right, sync-held, fault-low, low-held, breach-any}
-use Rattle.stream.proofs.Headers.{headerLength-most}
+use Rattle.stream.proofs.Headers.{headerLength-least}
 
 -- ── the header
 
@@ -134,11 +134,11 @@ whole-of-clean s clean =
     λ k pos h. sym (fault-low s k pos (low k pos h)) ∙ clean k h in
     let header = header-right K s (λ k pos h. rw (rule-header K k h) at (kept k pos (header-within s k h))) in
     record {
-      sync = sync-held s (clean 0 (header-within s 0 (omega (arith, headerLength-most (kind s)))));
+      sync = sync-held s (clean 0 (header-within s 0 (omega (arith, headerLength-least (kind s)))));
       low = low;
       unused = header .0;
       sum = header .1;
-      frames = λ f hf. frame-right (frameWidth K) s (frameBase K f) (λ i hi. rw (rule-frame K f i hi) at (kept (frameBase K f + i) (omega (arith, headerLength-most (kind s))) (frame-within s f i hf hi)));
+      frames = λ f hf. frame-right (frameWidth K) s (frameBase K f) (λ i hi. rw (rule-frame K f i hi) at (kept (frameBase K f + i) (omega (arith, headerLength-least (kind s))) (frame-within s f i hf hi)));
     }
 
 pub clean-of-whole : (s : List ℕ) → WholeStream s → Clean (faultAt s) (streamLength s)

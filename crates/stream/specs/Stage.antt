@@ -78,6 +78,11 @@ pub record FramesFrom (s : List ℕ) (start width end : ℕ) : Type 0 where
   pub total : streamLength s ≡ end
   pub rules : (j i : ℕ) → i < width + 2 → ruleAt (kind s) (start + (width + 2) * j + i) ≡ frameRule width i
 
+-- nothing is wrong up to `start`, and the frame there, unless that is the end, is cut off or has a fault
+pub record RightUpTo (s : List ℕ) (start width end : ℕ) : Type 0 where
+  pub frames : FramesFrom s start width end
+  pub stops : start < end → start + (width + 2) ≤ length s → Clean (faultAt s) (start + (width + 2)) → ⊥
+
 -- r is the lesser of two numbers
 pub record Lesser (a b r : ℕ) : Type 0 where
   pub left : r ≤ a

@@ -2,6 +2,7 @@
 ghost use Prim.Native.Nat.{_≤_};
 ghost use mathlib.Core.Path.{_≡_};
 ghost use mathlib.Core.Bool.{true};
+ghost use mathlib.Core.Logic.{_↔_};
 ghost use lib.ListN.{length};
 ghost use Rattle.stream.specs.Stage.{AllLow, FirstHigh, Lesser, StoppedAt};
 use crate::Validation;
@@ -16,7 +17,7 @@ pub fn lesser(a: usize, b: usize) -> usize
 
 // Whether every byte is low. The bytes are joined without a branch between them, for speed.
 pub fn all_low(s: &[u8]) -> bool
-    ensures { λ r. ⌜ (r ≡ true → AllLow (now (s .entry))) ⌝ }
+    ensures { λ r. ⌜ r ≡ true ↔ AllLow (now (s .entry)) ⌝ }
 {
     let mut joined: u8 = 0;
     let mut i = 0;

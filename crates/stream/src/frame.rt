@@ -2,8 +2,9 @@
 ghost use Prim.Native.Nat.{_+_, _≤_};
 ghost use mathlib.Core.Path.{_≡_};
 ghost use mathlib.Core.Bool.{true};
+ghost use mathlib.Core.Logic.{_↔_};
 ghost use lib.ListN.{length};
-ghost use Rattle.stream.specs.Stage.{Clean, ReachedFrame, ReachedAll, frameFault, FramesFrom};
+ghost use Rattle.stream.specs.Stage.{Clean, ReachedFrame, ReachedAll, frameFault, FramesFrom, RightUpTo};
 use crate::Validation;
 use crate::Verdict;
 use crate::at;
@@ -36,10 +37,10 @@ fn check(part: &[u8], width: usize) -> Validation
     at(Verdict::Whole, size)
 }
 
-// Whether a complete frame is right: only the good case matters, so that no byte needs a branch of its own.
+// Whether a complete frame has no fault. Which one it has doesn't matter here, so no byte needs a branch of its own.
 fn is_right(frame: &[u8], width: usize) -> bool
     requires { ⌜ (width ≤ 7) × (length (now frame) ≡ width + 2) ⌝ }
-    ensures { λ r. ⌜ (r ≡ true → Clean (frameFault width (now (frame .entry))) (width + 2)) ⌝ }
+    ensures { λ r. ⌜ r ≡ true ↔ Clean (frameFault width (now (frame .entry))) (width + 2) ⌝ }
 {
     if !all_low(frame) {
         return false;
@@ -51,10 +52,10 @@ fn is_right(frame: &[u8], width: usize) -> bool
     checksum::checksum(&frame[0..end]) == frame[end]
 }
 
-// Passes over frames that are right, and returns where the first stands that isn't, or the end. `validate` tells what is wrong.
+// Passes over frames that are right, and returns where the first stands that isn't, or the end.
 pub fn skip_right(input: &[u8], start: usize, width: usize, end: usize) -> usize
     requires { ⌜ FramesFrom (now input) start width end ⌝ }
-    ensures { λ r. ⌜ FramesFrom (now (input .entry)) r width end ⌝ }
+    ensures { λ r. ⌜ RightUpTo (now (input .entry)) r width end ⌝ }
 {
     let size = width + 2;
     let mut a = start;
@@ -71,21 +72,16 @@ pub fn skip_right(input: &[u8], start: usize, width: usize, end: usize) -> usize
     a
 }
 
-// The verdict on a stream whose header is right: each frame is handed on as the stretch of input it occupies.
-pub fn validate(input: &[u8], start: usize, width: usize, end: usize) -> Validation
-    requires { ⌜ FramesFrom (now input) start width end ⌝ }
+// The verdict on a stream that is right up to `a`, where `skip_right` stopped: V0 at the end, else what the frame there brings.
+pub fn validate_from(input: &[u8], a: usize, width: usize, end: usize) -> Validation
+    requires { ⌜ RightUpTo (now input) a width end ⌝ }
     ensures { λ r. ⌜ ReachedAll (now (input .entry)) r ⌝ }
 {
-    let size = width + 2;
-    let mut a = start;
-    while a < end {
-        let e = lesser(a + size, input.len());
-        let r = check(&input[a..e], width);
-        let verdict = r.verdict;
-        if r.offset < size {
-            return at(verdict, a + r.offset);
-        }
-        a += size;
+    if end <= a {
+        return at(Verdict::Whole, a);
     }
-    at(Verdict::Whole, a)
+    let e = lesser(a + (width + 2), input.len());
+    let r = check(&input[a..e], width);
+    let verdict = r.verdict;
+    at(verdict, a + r.offset)
 }

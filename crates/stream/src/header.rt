@@ -9,6 +9,7 @@ use crate::at;
 use crate::bytes::first_high;
 use crate::bytes::stopped;
 use crate::frame::skip_right;
+use crate::frame::validate_from;
 
 // The verdict on a header whose checksum stands at `place`.
 fn check(input: &[u8], place: usize) -> Validation
@@ -36,7 +37,7 @@ fn packet(input: &[u8]) -> Validation
         return r;
     }
     let end = 10 + 6 * (input[8] as usize);
-    crate::frame::validate(input, skip_right(input, 10, 4, end), 4, end)
+    validate_from(input, skip_right(input, 10, 4, end), 4, end)
 }
 
 // The verdict on a telegram: frames of seven bytes, as many as bits 5-6 of the command say.
@@ -49,7 +50,7 @@ fn telegram(input: &[u8]) -> Validation
         return r;
     }
     let end = 8 + 9 * (input[6] as usize / 32 % 4);
-    crate::frame::validate(input, skip_right(input, 8, 7, end), 7, end)
+    validate_from(input, skip_right(input, 8, 7, end), 7, end)
 }
 
 // The verdict on a datagram: a septet of six bytes at 14, and the checksum of all before it at 15.

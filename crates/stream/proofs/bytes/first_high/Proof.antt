@@ -3,7 +3,7 @@ use borrow.Author.Needs.{needs}
 use Prim.Native.Nat.{ℕ, _+_, _-_, _≤_, _<_}
 use native.Mathlib.Omega.{arith}
 use mathlib.Core.List.{List}
-use mathlib.Core.Path.{_≡_, sym, ap, _∙_}
+use mathlib.Core.Path.{_≡_, ap, _∙_}
 use lib.ListN.{length, getD, take, drop, length-drop}
 use lib.Seq.{getD-take, getD-drop, length-take-le}
 use Rattle.stream.specs.Stage.{AllLow, FirstHigh, Lesser}
@@ -49,7 +49,7 @@ returns c =
       after = omega arith;
       before = omega arith;
       within = omega arith;
-      low = part-low _ _ _ (omega arith) (c .before .all-low .ensures (c .if2 .taken));
+      low = part-low _ _ _ (omega arith) (c .before .all-low .ensures .0 (c .if2 .taken));
       high = λ short inside. absurd (omega arith);
     }
 

@@ -1,11 +1,10 @@
--- `stream::frame::is_right` meets its contract: where all its tests pass, the laws of one frame say that it is whole. Assumes nothing.
+-- `stream::frame::is_right` meets its contract: a frame has no fault exactly if it passes every test. Assumes nothing.
 use borrow.Author.Needs.{needs}
-use native.Mathlib.Omega.{arith}
 use native.Mathlib.Nat.{sub-zero}
 use mathlib.Core.Path.{sym, _∙_}
 use mathlib.Core.Bool.{true≢false}
-use borrow.Author.Tests.{eqb-true, not-false}
-use Rattle.stream.proofs.Frames.{frame-right}
+use borrow.Author.Tests.{eqb-true, eq-eqb, not-true, not-false}
+use Rattle.stream.proofs.Frames.{frame-right, clean-low, clean-septet, clean-sum}
 use Rattle.stream.proofs.frame.is_right.Statement.{statement}
 use Rattle.stream.proofs.frame.is_right.Tie as tie
 
@@ -13,7 +12,10 @@ all-low-requires : tie.Need-all-low-requires
 all-low-requires c κs = search needs
 
 returns : tie.Need-returns
-returns c e = absurd (true≢false (sym e))
+returns c = (
+  λ e. absurd (true≢false (sym e)),
+  λ clean. sym (not-true _ (c .if1 .taken)) ∙ c .before .all-low .ensures .1 (clean-low _ _ clean (c .before .before .before .pre .1)),
+)
 
 shared-slice-read-if2 : tie.Need-shared-slice-read-if2
 shared-slice-read-if2 c = search needs
@@ -25,7 +27,7 @@ shr-if2 : tie.Need-shr-if2
 shr-if2 c = search needs
 
 returns-2 : tie.Need-returns-2
-returns-2 c e = absurd (true≢false (sym e))
+returns-2 c = (λ e. absurd (true≢false (sym e)), λ clean. absurd (c .if2 .taken (clean-septet _ _ clean)))
 
 add-end : tie.Need-add-end
 add-end c = search needs
@@ -46,10 +48,13 @@ shared-slice-read-result : tie.Need-shared-slice-read-result
 shared-slice-read-result c = search needs
 
 returns-3 : tie.Need-returns-3
-returns-3 c e =
+returns-3 c =
     let start = c .before .before .before .before .before .before .before .before in
-    let sum = rw sub-zero at (c .before .checksum .ensures) in
-    frame-right (start .args .width) (start .args .frame .now) (start .pre .1) (c .before .before .before .before .before .before .all-low .ensures (not-false _ (c .before .before .before .before .before .if1 .left))) (c .before .before .before .if2 .left) (sym (eqb-true _ _ e) ∙ sum)
+    let low = c .before .before .before .before .before .before .all-low .ensures .0 (not-false _ (c .before .before .before .before .before .if1 .left)) in
+    let sum = rw sub-zero at (c .before .checksum .ensures) in (
+      λ e. frame-right (start .args .width) (start .args .frame .now) (start .pre .1) low (c .before .before .before .if2 .left) (sym (eqb-true _ _ e) ∙ sum),
+      λ clean. eq-eqb _ _ (sum ∙ sym (clean-sum _ _ clean)),
+    )
 
 pub is-right-spec : {M : Type 1} → statement M
 is-right-spec =

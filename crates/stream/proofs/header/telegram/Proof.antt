@@ -31,8 +31,8 @@ unfolding frameWidth frameCount
 skip-right-requires c κs =
     frames-from Telegram 7 telegram-ends _ (c .before .before .before .before .before .pre) (c .before .before .before .check .ensures) (omega arith) (omega arith)
 
-validate-requires : tie.Need-validate-requires
-validate-requires c κs = c .skip-right .ensures
+validate-from-requires : tie.Need-validate-from-requires
+validate-from-requires c κs = c .skip-right .ensures
 
 returns-2 : tie.Need-returns-2
 returns-2 c = search needs
@@ -48,5 +48,5 @@ telegram-spec =
     mul-end
     add-end
     skip-right-requires
-    validate-requires
+    validate-from-requires
     returns-2)
