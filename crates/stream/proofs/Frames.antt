@@ -133,16 +133,16 @@ module _ (s : List ℕ) (a width end : ℕ) (frames : FramesFrom s a width end) 
           rules = λ j i h. subst (λ (n : ℕ). ruleAt (kind s) (n + i) ≡ frameRule width i) (omega (arith, mul-suc (width + 2) j)) (frames .rules (suc j) i h);
         }
 
--- the first of them isn't right: what it brings, up to its end or the input's, the stream brings
-pub frames-stop : (s : List ℕ) (a width end e : ℕ) {v k : ℕ} → RightUpTo s a width end → a < end → Lesser (a + (width + 2)) (length s) e
-    → Reached (frameFault width (partOf s a e)) (width + 2) (length (partOf s a e)) v k → Reached (faultAt s) (streamLength s) (length s) v (a + k)
-frames-stop s a width end e {v} {k} right more lesser reached =
+-- the first of them isn't right: what it brings, or its n bytes up to the input's end, the stream brings
+pub frames-stop : (s : List ℕ) (a width end n : ℕ) {v k : ℕ} → RightUpTo s a width end → a < end → Lesser (width + 2) (length s - a) n
+    → Reached (frameFault width (partOf s a (a + n))) (width + 2) (length (partOf s a (a + n))) v k → Reached (faultAt s) (streamLength s) (length s) v (a + k)
+frames-stop s a width end n {v} {k} right more lesser reached =
     let frames = right .frames in
-    let starts = lesser .most a (omega arith) (frames .there) in
-    let size = length-part s a e (lesser .right) in
-    moved (faultAt s) (frameFault width (partOf s a e)) a (width + 2) (streamLength s) (length s) (length (partOf s a e)) v k (frames .clean)
-    (λ i inside there. same s a width end frames e i inside (omega arith))
-    (omega (arith, room s a width end frames more, frames .total)) (omega (arith, lesser .right))
-    (λ cut. dite (decLt e (length s)) (λ less. absurd (omega (arith, lesser .most (suc e) (omega arith) less))) (λ no. omega (arith, lesser .right)))
-    (λ long clean. right .stops more (omega (arith, lesser .right)) (first-clean s a width end frames e (omega arith) .0 clean))
+    let inside : a + n ≤ length s = omega (arith, frames .there, lesser .right) in
+    let size = length-part s a (a + n) inside in
+    moved (faultAt s) (frameFault width (partOf s a (a + n))) a (width + 2) (streamLength s) (length s) (length (partOf s a (a + n))) v k (frames .clean)
+    (λ i short there. same s a width end frames (a + n) i short (omega arith))
+    (omega (arith, room s a width end frames more, frames .total)) (omega arith)
+    (λ cut. dite (decLt n (length s - a)) (λ less. absurd (omega (arith, lesser .most (suc n) (omega arith) less))) (λ no. omega arith))
+    (λ long clean. right .stops more (omega arith) (first-clean s a width end frames (a + n) (omega arith) .0 clean))
     reached

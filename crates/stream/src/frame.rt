@@ -80,7 +80,8 @@ pub fn validate_from(input: &[u8], a: usize, width: usize, end: usize) -> Valida
     if end <= a {
         return at(Verdict::Whole, a);
     }
-    let e = lesser(a + (width + 2), input.len());
+    // Not `lesser(a + (width + 2), ..)`: for that sum the compiler would keep a second counter in the loop of `skip_right`.
+    let e = a + lesser(width + 2, input.len() - a);
     let r = check(&input[a..e], width);
     let verdict = r.verdict;
     at(verdict, a + r.offset)

@@ -15,20 +15,25 @@ returns c = rw (c .at .ensures) (frames-end _ _ _ _ (c .before .before .before .
 add-lesser : tie.Need-add-lesser
 add-lesser c = omega (arith, c .before .before .pre .frames .narrow)
 
-add-lesser-2 : tie.Need-add-lesser-2
-add-lesser-2 c = omega (arith, c .before .before .pre .frames .there, c .before .before .pre .frames .narrow)
+sub-lesser : tie.Need-sub-lesser
+sub-lesser c = c .before .before .pre .frames .there
 
 lesser-requires : tie.Need-lesser-requires
 lesser-requires c κs = search needs
 
+add-e : tie.Need-add-e
+add-e c =
+    let frames = c .before .before .before .pre .frames in
+    omega (arith, c .lesser .ensures .left, frames .there, frames .narrow)
+
 sub-check : tie.Need-sub-check
-sub-check c = c .lesser .ensures .most _ (omega arith) (c .before .before .before .pre .frames .there)
+sub-check c = search needs
 
 part-check-start : tie.Need-part-check-start
-part-check-start c = c .lesser .ensures .most _ (omega arith) (c .before .before .before .pre .frames .there)
+part-check-start c = search needs
 
 part-check-end : tie.Need-part-check-end
-part-check-end c = search needs
+part-check-end c = omega (arith, c .lesser .ensures .right, c .before .before .before .pre .frames .there)
 
 check-requires : tie.Need-check-requires
 check-requires c κs = search needs
@@ -54,8 +59,9 @@ validate-from-spec =
     at-requires
     returns
     add-lesser
-    add-lesser-2
+    sub-lesser
     lesser-requires
+    add-e
     sub-check
     part-check-start
     part-check-end
