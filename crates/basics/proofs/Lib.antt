@@ -2,3 +2,4 @@ pub mod Choice
 pub mod Bytes
 pub mod Over
 pub mod Signed
+pub mod Output

@@ -1,11 +1,11 @@
 -- What is answered by a function that writes to a lent output, and what the output holds afterwards.
 use Prim.Native.Nat.{ℕ}
 use mathlib.Core.Bool.{Bool}
-use mathlib.Core.List.{List}
+use mathlib.Core.List.{List, [], _∷_}
 use lib.Dec.{ltb, eqb}
 use lib.ListN.{length}
 use Rattle.basics.specs.Bytes.{over}
-use Rattle.basics.specs.Choice.{choose}
+use Rattle.basics.specs.Choice.{choose, first}
 
 -- an answer in the paper's terms: its number, and how many bytes were written or, refused, zero
 pub record Answer : Type 0 where
@@ -23,3 +23,13 @@ answered refusal result = record { number = refusal; length = choose (eqb refusa
 -- the output afterwards: the result over its start or, refused, every byte as it was
 abbrev pub outputWith : ℕ → List ℕ → List ℕ → List ℕ
 outputWith refusal result out = choose (eqb refusal 0) (over result out) out
+
+-- a call that is refused only for its room: the refusal or 0, what is answered, and the output afterwards
+unfoldable pub roomRefusal : List ℕ → ℕ → ℕ
+roomRefusal result room = first (tooShort room result ∷ [])
+
+abbrev pub answeredFor : List ℕ → ℕ → Answer
+answeredFor result room = answered (roomRefusal result room) result
+
+abbrev pub outputFor : List ℕ → List ℕ → List ℕ
+outputFor result out = outputWith (roomRefusal result (length out)) result out

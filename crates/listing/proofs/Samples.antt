@@ -4,6 +4,7 @@ use mathlib.Core.Path.{_≡_, refl}
 use mathlib.Core.List.{List, [], _∷_, _++_}
 use lib.ListN.{replicate}
 use Rattle.basics.specs.Choice.{choose}
+use Rattle.basics.specs.Output.{roomRefusal}
 use Rattle.checksum.specs.Checksum.{checksumFrom}
 use Rattle.septet.specs.Septet.{withTopBits}
 use Rattle.stream.specs.Layout.{kindOf, headerLength, frameWidth, frameCount, streamLength}
@@ -11,7 +12,7 @@ use Rattle.stream.specs.Validation.{frameRule, headerRule, ruleAt, breach, faul
 use Rattle.record.specs.Record.{Record, recordOf, commandIn, payloadIn, unframed}
 use Rattle.recording.specs.Recording.{deliveriesFrom}
 use Rattle.listing.specs.declared.Listed.the-variants.{Written, OutputTooShort}
-use Rattle.listing.specs.Line.{bytesHex, commandHex, payloadHex, headHex, lineOf, linesOf, listingOf, answerOf, refusal, listedOf, outputAfter}
+use Rattle.listing.specs.Line.{bytesHex, commandHex, payloadHex, headHex, lineOf, linesOf, listingOf, answerOf, listedOf, outputAfter}
 
 -- AA 11 44 10 66 10 00 02 01 21 07 04 0F 00 00 65
 p1 : List ℕ
@@ -79,17 +80,17 @@ shortest : Record
 shortest = record { header = record { version = 0x30; destination = 0; source = 0; command = 0 }; payload = [] }
 
 room-18 : listedOf shortest 18 ≡ record { number = 0; length = 18 }
-unfolding shortest refusal lineOf headHex payloadHex commandHex kindOf choose
+unfolding shortest roomRefusal lineOf headHex payloadHex commandHex kindOf choose
 room-18 = refl
 
 room-17 : listedOf shortest 17 ≡ record { number = 5; length = 0 }
-unfolding shortest refusal lineOf headHex payloadHex commandHex kindOf choose
+unfolding shortest roomRefusal lineOf headHex payloadHex commandHex kindOf choose
 room-17 = refl
 
 output-20 : outputAfter shortest (replicate 20 0xEE) ≡ lineOf shortest ++ (0xEE ∷ 0xEE ∷ [])
-unfolding shortest refusal lineOf headHex payloadHex commandHex kindOf choose
+unfolding shortest roomRefusal lineOf headHex payloadHex commandHex kindOf choose
 output-20 = refl
 
 output-17 : outputAfter shortest (replicate 17 0xEE) ≡ replicate 17 0xEE
-unfolding shortest refusal lineOf headHex payloadHex commandHex kindOf choose
+unfolding shortest roomRefusal lineOf headHex payloadHex commandHex kindOf choose
 output-17 = refl

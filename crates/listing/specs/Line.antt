@@ -5,7 +5,7 @@ use mathlib.Core.List.{List, [], _∷_, _++_}
 use lib.Dec.{ltb}
 use lib.ListN.{length}
 use Rattle.basics.specs.Choice.{choose, first}
-use Rattle.basics.specs.Output.{Answer, tooShort, answered, outputWith}
+use Rattle.basics.specs.Output.{Answer, answeredFor, outputFor}
 use Rattle.stream.specs.Layout.{kindOf}
 use Rattle.stream.specs.declared.Kind.{Kind}
 use Rattle.stream.specs.declared.Kind.the-variants.{Packet, Datagram, Telegram, Unknown}
@@ -87,14 +87,10 @@ lengthIn OutputTooShort = 0
 abbrev pub answerOf : Listed → Answer
 answerOf a = record { number = number a; length = lengthIn a }
 
--- 5: the output is shorter than the line
-unfoldable pub refusal : Record → ℕ → ℕ
-refusal r room = first (tooShort room (lineOf r) ∷ [])
-
--- what is answered for an output of the given room
+-- what is answered for an output of the given room; 5: it is shorter than the line
 abbrev pub listedOf : Record → ℕ → Answer
-listedOf r room = answered (refusal r room) (lineOf r)
+listedOf r room = answeredFor (lineOf r) room
 
 -- the output afterwards
 abbrev pub outputAfter : Record → List ℕ → List ℕ
-outputAfter r out = outputWith (refusal r (length out)) (lineOf r) out
+outputAfter r out = outputFor (lineOf r) out

@@ -2,8 +2,7 @@
 use Prim.Native.Nat.{ℕ}
 use mathlib.Core.List.{List, [], _∷_, _++_}
 use lib.ListN.{length}
-use Rattle.basics.specs.Choice.{first}
-use Rattle.basics.specs.Output.{Answer, tooShort, answered, outputWith}
+use Rattle.basics.specs.Output.{Answer, answeredFor, outputFor}
 use Rattle.record.specs.Record.{Record, streamOf}
 use Rattle.recording.specs.Recording.{records}
 use Rattle.recording.specs.declared.Normalized.{Normalized}
@@ -30,14 +29,10 @@ lengthIn OutputTooShort = 0
 abbrev pub answerOf : Normalized → Answer
 answerOf e = record { number = number e; length = lengthIn e }
 
--- 5: the output is shorter than the normalized recording
-unfoldable pub refusal : List ℕ → ℕ → ℕ
-refusal s room = first (tooShort room (normalized s) ∷ [])
-
--- what is answered for an output of the given room
+-- what is answered for an output of the given room; 5: it is shorter than the normalized recording
 abbrev pub normalizingOf : List ℕ → ℕ → Answer
-normalizingOf s room = answered (refusal s room) (normalized s)
+normalizingOf s room = answeredFor (normalized s) room
 
 -- the output afterwards
 abbrev pub outputAfter : List ℕ → List ℕ → List ℕ
-outputAfter s out = outputWith (refusal s (length out)) (normalized s) out
+outputAfter s out = outputFor (normalized s) out

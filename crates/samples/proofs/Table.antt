@@ -5,6 +5,7 @@ use mathlib.Core.Path.{_≡_, refl}
 use mathlib.Core.List.{List, [], _∷_, _++_, map, flatten}
 use lib.ListN.{take, replicate}
 use Rattle.basics.specs.Choice.{choose}
+use Rattle.basics.specs.Output.{roomRefusal}
 use Rattle.basics.specs.Words.{signed}
 use Rattle.checksum.specs.Checksum.{checksumFrom}
 use Rattle.septet.specs.Septet.{septetOf, lowBits, withTopBits}
@@ -19,7 +20,6 @@ use Rattle.record.specs.declared.Encoded.the-variants as Encoded
 use Rattle.recording.specs.Recording.{deliveriesFrom}
 use Rattle.recording.specs.Next as Nexts
 use Rattle.recording.specs.Normalize.{streams}
-use Rattle.recording.specs.Normalize as Normals
 use Rattle.recording.specs.declared.NextRecord.the-variants as NextRecord
 use Rattle.recording.specs.declared.Normalized.the-variants as Normalized
 use Rattle.block.specs.Section.{cut, someShort}
@@ -230,5 +230,5 @@ abbrev table : List Row
 table = starred ++ (blocks ++ (verdicts ++ (records ++ (recordings ++ (blockSections ++ cases)))))
 
 samples : map (λ (row : Row). answer (row .0)) table ≡ map (λ (row : Row). row .1) table
-unfolding choose signed checksumFrom septetOf lowBits withTopBits anyHigh kindOf headerLength frameWidth frameCount streamLength payloadLength frameRule headerRule ruleAt breach faultAt validationFrom recordOf unframed commandIn payloadIn framed framesOf kindBytes streamAs streamOf unwritable Encodings.refusal deliveriesFrom Nexts.refusal streams Normals.refusal cut someShort elementSize notBlock flatten
+unfolding choose signed checksumFrom septetOf lowBits withTopBits anyHigh kindOf headerLength frameWidth frameCount streamLength payloadLength frameRule headerRule ruleAt breach faultAt validationFrom recordOf unframed commandIn payloadIn framed framesOf kindBytes streamAs streamOf unwritable Encodings.refusal deliveriesFrom Nexts.refusal streams roomRefusal cut someShort elementSize notBlock flatten
 samples = refl

@@ -6,7 +6,7 @@ use mathlib.Core.Logic.{⊎-elim}
 use lib.ListN.{length}
 use Rattle.recording.specs.Normalize.{normalized}
 use Rattle.recording.proofs.Normalizing.{normalized-shorter}
-use Rattle.recording.proofs.Runs.{normalizing-short, normalizing-fits, output-kept, output-written}
+use Rattle.basics.proofs.Output.{answered-short, answered-fits, output-kept, output-written}
 use borrow.Author.Needs.{needs}
 use Rattle.recording.proofs.normalize.Statement.{statement}
 use Rattle.recording.proofs.normalize.Tie as tie
@@ -19,7 +19,7 @@ returns c =
     let s = c .before .before .before .before .before .args .input .now in
     let out = c .before .before .before .before .before .args .out .now in
     let short : length out < length (normalized s) = omega (arith, c .before .measure .ensures) in
-    (sym (normalizing-short s (length out) short), sym (output-kept s out short))
+    (sym (answered-short (normalized s) (length out) short), sym (output-kept (normalized s) out short))
 
 -- where the two tests meet, the output has room
 room : (c : tie.Joined1) → length (normalized (c .before .before .before .args .input .now)) ≤ length (c .before .before .before .args .out .now)
@@ -38,7 +38,7 @@ returns-2 c =
     let s = c .before .before .before .before .before .before .before .args .input .now in
     let out = c .before .before .before .before .before .before .before .args .out .now in
     let fits = room (c .before .before .before .before) in
-    (ap (λ (n : ℕ). record { number = 0; length = n }) (c .before .before .all .ensures .0) ∙ sym (normalizing-fits s (length out) fits), c .before .before .all .ensures .1 ∙ sym (output-written s out fits))
+    (ap (λ (n : ℕ). record { number = 0; length = n }) (c .before .before .all .ensures .0) ∙ sym (answered-fits (normalized s) (length out) fits), c .before .before .all .ensures .1 ∙ sym (output-written (normalized s) out fits))
 
 pub normalize-spec : {M : Type 1} → statement M
 normalize-spec = tie.close (tie.spec measure-requires returns all-requires same-length returns-2)
