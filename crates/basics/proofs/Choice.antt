@@ -20,12 +20,6 @@ pub equal-of-zero : (a b v : ℕ) → 0 < v → choose (eqb a b) 0 v ≡ 0 → a
 unfolding choose
 equal-of-zero a b v pos e = dite (ℕ-discrete a b) (λ same. same) (λ other. absurd (omega (arith, simp (ne-eqb a b other) at e)))
 
--- a table's line that doesn't apply
-pub line-passed : (applies : Bool) (number rest : ℕ) → 0 < number → choose applies number rest ≡ 0 → (applies ≡ false) × (rest ≡ 0)
-unfolding choose
-line-passed true number rest pos e = absurd (omega arith)
-line-passed false number rest pos e = (refl, e)
-
 -- two tests neither of which applies
 pub neither : (a b : Bool) → (a || b) ≡ false → (a ≡ false) × (b ≡ false)
 neither true b e = absurd (true≢false e)

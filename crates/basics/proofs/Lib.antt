@@ -1,4 +1,5 @@
 pub mod Choice
+pub mod Table
 pub mod Bytes
 pub mod Over
 pub mod Signed

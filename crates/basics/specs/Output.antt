@@ -6,18 +6,14 @@ use lib.Dec.{ltb, eqb}
 use lib.ListN.{length}
 use Rattle.basics.specs.Bytes.{over}
 use Rattle.basics.specs.Choice.{choose, first}
-
--- an answer in the paper's terms: its number, and how many bytes were written or, refused, zero
-pub record Answer : Type 0 where
-  pub number : ℕ
-  pub length : ℕ
+use Rattle.basics.specs.declared.Written.{Written}
 
 -- the table's line 5: the output is shorter than this call's result needs
 abbrev pub tooShort : ℕ → List ℕ → Bool × ℕ
 tooShort room result = (ltb room (length result), 5)
 
 -- the answer for a result, by the refusal's number or 0: "any further number .. in a refused answer is zero"
-abbrev pub answered : ℕ → List ℕ → Answer
+abbrev pub answered : ℕ → List ℕ → Written
 answered refusal result = record { number = refusal; length = choose (eqb refusal 0) (length result) 0 }
 
 -- the output afterwards: the result over its start or, refused, every byte as it was
@@ -28,7 +24,7 @@ outputWith refusal result out = choose (eqb refusal 0) (over result out) out
 unfoldable pub roomRefusal : List ℕ → ℕ → ℕ
 roomRefusal result room = first (tooShort room result ∷ [])
 
-abbrev pub answeredFor : List ℕ → ℕ → Answer
+abbrev pub answeredFor : List ℕ → ℕ → Written
 answeredFor result room = answered (roomRefusal result room) result
 
 abbrev pub outputFor : List ℕ → List ℕ → List ℕ

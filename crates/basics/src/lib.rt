@@ -1,1 +1,9 @@
-// The vocabulary that the other crates' definitions share, in specs/, and its laws, in proofs/. No code.
+// The vocabulary that the other crates share: definitions in specs/, their laws in proofs/, and the answer of every function that
+// writes to a lent output. No code.
+
+// How many bytes were written, or a refusal's number and zero.
+#[repr(C)]
+pub struct Written {
+    pub number: u32,
+    pub length: usize,
+}

@@ -9,7 +9,8 @@ use lib.Dec.{eqb, leb, ltb}
 use lib.ListN.{length}
 use borrow.Author.Tests.{le-leb, lt-leb, leb-false, ltb-false}
 use Rattle.basics.specs.Choice.{choose}
-use Rattle.basics.proofs.Choice.{line-passed, neither}
+use Rattle.basics.proofs.Choice.{neither}
+use Rattle.basics.proofs.Table.{line-passed}
 use Rattle.record.specs.declared.Header.{Header}
 use Rattle.block.specs.Section.{sectionLength, sectionsOf, overrun}
 use Rattle.block.specs.Answer.{notBlock, blockLines, sectionLines, sectionCount, sectionFound}

@@ -1,15 +1,19 @@
 -- What the wire can carry: the facts that a writable record's tests say, and back.
 use Prim.Native.Nat.{ℕ, _+_, _*_, _/_, _%_, _<_, _≤_}
 use native.Mathlib.Omega.{arith}
+use native.Mathlib.Decide.{ℕ-discrete}
 use mathlib.Core.Path.{_≡_, refl}
-use mathlib.Core.Bool.{Bool, true, false, _||_}
+use mathlib.Core.Logic.{dite}
+use mathlib.Core.Bool.{false, _||_}
 use mathlib.Core.List.{[], _∷_}
 use borrow.Author.Tests.{ne-eqb, eq-eqb, eqb-false, le-ltb, ltb-false}
 use lib.Dec.{ltb}
 use lib.ListN.{length}
 use Rattle.basics.specs.Choice.{choose, first}
+use Rattle.basics.specs.Output.{tooShort}
 use Rattle.basics.specs.Words.{hasBit, highWord}
-use Rattle.basics.proofs.Choice.{line-passed, neither}
+use Rattle.basics.proofs.Choice.{choose-by, neither}
+use Rattle.basics.proofs.Table.{Numbered, first-next, first-none, line-passed}
 use Rattle.stream.specs.Layout.{kindOf, headerLength, frameWidth, payloadLength}
 use Rattle.stream.specs.declared.Kind.{Kind}
 use Rattle.stream.specs.declared.Kind.the-variants.{Packet, Datagram, Telegram, Unknown}
@@ -108,48 +112,29 @@ carried-writable r range carried = record { range = range; carried = lines-of (k
 
 -- ── the refusal, by the record and by the room
 
+-- no line has number 0
+numbered : (K : Kind) (r : Record) → Numbered (linesAs K r)
+numbered K r = (omega arith, (omega arith, (omega arith, (omega arith, tt))))
+
 module _ (r : Record) (room : ℕ) where
-  four-lines : (a b c d e : Bool) → first ((a, 1) ∷ (b, 2) ∷ (c, 3) ∷ (d, 4) ∷ []) ≡ 0
-      → first ((a, 1) ∷ (b, 2) ∷ (c, 3) ∷ (d, 4) ∷ (e, 5) ∷ []) ≡ choose e 5 0
-  unfolding choose
-  four-lines true b c d e h = absurd (omega arith)
-  four-lines false true c d e h = absurd (omega arith)
-  four-lines false false true d e h = absurd (omega arith)
-  four-lines false false false true e h = absurd (omega arith)
-  four-lines false false false false e h = refl
-
-  -- a writable record is refused only for the room
-  pub writable-refusal : Writable r → refusal r room ≡ choose (ltb room (length (streamOf r))) 5 0
+  -- what the wire can carry is refused only for the room
+  room-only : unwritable r ≡ 0 → refusal r room ≡ choose (ltb room (length (streamOf r))) 5 0
   unfolding unwritable refusal
-  writable-refusal w = four-lines _ _ _ _ _ (w .carried)
+  room-only none = first-next (linesAs (kindIn r) r) (tooShort room (streamOf r) ∷ []) (numbered (kindIn r) r) none
 
-  five-lines : (a b c d e : Bool) → 0 < first ((a, 1) ∷ (b, 2) ∷ (c, 3) ∷ (d, 4) ∷ (e, 5) ∷ []) → first ((a, 1) ∷ (b, 2) ∷ (c, 3) ∷ (d, 4) ∷ (e, 5) ∷ []) < 5
-      → 0 < first ((a, 1) ∷ (b, 2) ∷ (c, 3) ∷ (d, 4) ∷ [])
-  unfolding choose
-  five-lines true b c d e p q = p
-  five-lines false true c d e p q = p
-  five-lines false false true d e p q = p
-  five-lines false false false true e p q = p
-  five-lines false false false false true p q = absurd (omega arith)
-  five-lines false false false false false p q = absurd (omega arith)
+  pub writable-refusal : Writable r → refusal r room ≡ choose (ltb room (length (streamOf r))) 5 0
+  writable-refusal w = room-only (w .carried)
 
   -- a refusal with 1 to 4 is one for any room
   pub refusal-unwritable : 0 < refusal r room → refusal r room < 5 → 0 < unwritable r
-  unfolding unwritable refusal
-  refusal-unwritable p q = five-lines _ _ _ _ _ p q
-
-  none-of-five : (a b c d e : Bool) → first ((a, 1) ∷ (b, 2) ∷ (c, 3) ∷ (d, 4) ∷ (e, 5) ∷ []) ≡ 0 → (first ((a, 1) ∷ (b, 2) ∷ (c, 3) ∷ (d, 4) ∷ []) ≡ 0) × (e ≡ false)
-  unfolding choose
-  none-of-five true b c d e h = absurd (omega arith)
-  none-of-five false true c d e h = absurd (omega arith)
-  none-of-five false false true d e h = absurd (omega arith)
-  none-of-five false false false true e h = absurd (omega arith)
-  none-of-five false false false false true h = absurd (omega arith)
-  none-of-five false false false false false h = (refl, refl)
+  refusal-unwritable p q =
+      dite (ℕ-discrete (unwritable r) 0)
+      (λ none. choose-by (λ (n : ℕ). refusal r room ≡ n → 0 < unwritable r) _ (λ t e. absurd (omega arith)) (λ t e. absurd (omega arith)) (room-only none))
+      (λ some. omega arith)
 
   -- a record that isn't refused is writable, and there is room for its stream
   pub unrefused : InRange r → refusal r room ≡ 0 → Writable r × (length (streamOf r) ≤ room)
   unfolding unwritable refusal
   unrefused range e =
-      let (carried, held) = none-of-five _ _ _ _ _ e in
-      (record { range = range; carried = carried }, ltb-false room (length (streamOf r)) held)
+      let (carried, none) = first-none (linesAs (kindIn r) r) (tooShort room (streamOf r) ∷ []) (numbered (kindIn r) r) e in
+      (record { range = range; carried = carried }, ltb-false room (length (streamOf r)) (line-passed _ 5 0 (omega arith) none .0))

@@ -7,7 +7,8 @@ use lib.Dec.{ltb, eqb}
 use lib.ListN.{length}
 use Rattle.basics.specs.Bytes.{AllBelow}
 use Rattle.basics.specs.Choice.{first}
-use Rattle.basics.specs.Output.{Answer, tooShort, answered, outputWith}
+use Rattle.basics.specs.Output.{tooShort, answered, outputWith}
+use Rattle.basics.specs.declared.Written.{Written as Answer}
 use Rattle.basics.specs.Words.{highWord}
 use Rattle.stream.specs.Layout.{kindOf, payloadLength}
 use Rattle.stream.specs.declared.Kind.{Kind}

@@ -8,6 +8,7 @@ mod fits;
 mod write;
 
 // The fields of a record beside its payload.
+#[repr(C)]
 pub struct Header {
     pub version: u8,
     pub destination: u16,

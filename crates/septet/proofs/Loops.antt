@@ -12,7 +12,7 @@ use lib.ListN.{length, take, drop, getD, set, replicate}
 use lib.Seq.{take-suc, drop-cons, set-at, length-take-le}
 use lib.Pow.{pow-mono}
 use Rattle.septet.specs.Septet.{septetOf, lowBits, withTopBits, unusedBits}
-use Rattle.septet.specs.Block.{anyHigh, padded}
+use Rattle.septet.specs.Answer.{anyHigh, padded}
 
 -- ── taking out, from the last byte to the first
 

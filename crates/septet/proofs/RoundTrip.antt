@@ -12,13 +12,13 @@ use Rattle.basics.specs.Choice.{choose}
 use Rattle.basics.specs.Bytes.{AllBelow}
 use Rattle.basics.proofs.Bytes.{all-take}
 use Rattle.basics.proofs.Choice.{neither}
-use Rattle.septet.specs.declared.Block.{Block}
+use Rattle.septet.specs.declared.Septets.{Septets}
 use Rattle.septet.specs.Septet.{septetOf, lowBits, withTopBits, unusedBits}
-use Rattle.septet.specs.Block.{refused, padded, extracted, injected, anyHigh, unfit}
+use Rattle.septet.specs.Answer.{refused, padded, extracted, injected, anyHigh, unfit}
 use Rattle.septet.proofs.Laws.{length-lowBits, length-withTopBits, lowBits-below, septetOf-below, septetOf-unused, septet-below, unused-below, withTopBits-septetOf, lowBits-withTopBits, septetOf-withTopBits-used}
 
 -- a block that isn't refused has passed the test
-passed : (test : Bool) (block : Block) → choose test refused block .number ≡ 0 → test ≡ false
+passed : (test : Bool) (block : Septets) → choose test refused block .number ≡ 0 → test ≡ false
 unfolding choose
 passed true block e = absurd (omega arith)
 passed false block e = refl

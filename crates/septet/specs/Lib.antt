@@ -1,2 +1,2 @@
 pub mod Septet
-pub mod Block
+pub mod Answer

@@ -1,19 +1,20 @@
 // The septet: the top bits of up to seven bytes, carried apart from them.
 ghost use mathlib.Core.Path.{_≡_};
-ghost use Rattle.septet.specs.Block.{extracted, injected};
+ghost use Rattle.septet.specs.Answer.{extracted, injected};
 
 // A block of at most seven bytes with its septet, or a refusal: number 7, and all else zero.
-pub struct Block {
+#[repr(C)]
+pub struct Septets {
     pub number: u32,
     pub bytes: [u8; 7],
     pub length: usize,
     pub septet: u8,
 }
 
-fn refused() -> Block
-    ensures { λ r. ⌜ r ≡ Rattle.septet.specs.Block.refused ⌝ }
+fn refused() -> Septets
+    ensures { λ r. ⌜ r ≡ Rattle.septet.specs.Answer.refused ⌝ }
 {
-    Block {
+    Septets {
         number: 7,
         bytes: [0; 7],
         length: 0,
@@ -22,7 +23,7 @@ fn refused() -> Block
 }
 
 // The first `used` bytes without their top bits, and the septet that holds these.
-pub fn extract(bytes: [u8; 7], used: usize) -> Block
+pub fn extract(bytes: [u8; 7], used: usize) -> Septets
     ensures { λ r. ⌜ r ≡ extracted bytes used ⌝ }
 {
     if used > 7 {
@@ -37,7 +38,7 @@ pub fn extract(bytes: [u8; 7], used: usize) -> Block
         septet = septet * 2 + byte / 128;
         low[i] = byte % 128;
     }
-    Block {
+    Septets {
         number: 0,
         bytes: low,
         length: used,
@@ -46,7 +47,7 @@ pub fn extract(bytes: [u8; 7], used: usize) -> Block
 }
 
 // The first `used` bytes with the septet's bits as their top bits.
-pub fn inject(bytes: [u8; 7], used: usize, septet: u8) -> Block
+pub fn inject(bytes: [u8; 7], used: usize, septet: u8) -> Septets
     ensures { λ r. ⌜ r ≡ injected bytes used septet ⌝ }
 {
     if used > 7 {
@@ -70,7 +71,7 @@ pub fn inject(bytes: [u8; 7], used: usize, septet: u8) -> Block
     if rest != 0 {
         return refused();
     }
-    Block {
+    Septets {
         number: 0,
         bytes: full,
         length: used,

@@ -13,7 +13,7 @@ use mir.Syntax.{w8}
 use mir.Val.{Fits}
 use Rattle.basics.specs.Choice.{choose}
 use Rattle.septet.specs.Septet.{septetOf, lowBits}
-use Rattle.septet.specs.Block.{padded}
+use Rattle.septet.specs.Answer.{padded}
 use Rattle.septet.proofs.Loops.{septetOf-drop, lowBits-drop, pow-back, pow-seven, drop-zeros}
 use Rattle.septet.proofs.extract.Statement.{statement}
 use Rattle.septet.proofs.extract.Tie as tie

@@ -12,7 +12,7 @@ use lib.ListN.{length, take, getD, set}
 use lib.Seq.{getD-take, length-take-le}
 use Rattle.basics.specs.Choice.{choose}
 use Rattle.septet.specs.Septet.{withTopBits, unusedBits}
-use Rattle.septet.specs.Block.{anyHigh, padded}
+use Rattle.septet.specs.Answer.{anyHigh, padded}
 use Rattle.septet.proofs.Laws.{length-withTopBits}
 use Rattle.septet.proofs.Loops.{unused-more, withTopBits-more, anyHigh-more, anyHigh-at, padded-set}
 use Rattle.septet.proofs.inject.Statement.{statement}

@@ -6,10 +6,10 @@ use lib.Dec.{ltb, leb, eqb}
 use lib.ListN.{take, replicate}
 use Rattle.basics.specs.Choice.{choose}
 use Rattle.septet.specs.Septet.{septetOf, lowBits, withTopBits, unusedBits}
-use Rattle.septet.specs.declared.Block.{Block}
+use Rattle.septet.specs.declared.Septets.{Septets}
 
 -- document 01: a refused block comes back with length, septet and all bytes zero
-abbrev pub refused : Block
+abbrev pub refused : Septets
 refused = record { number = 7; bytes = replicate 7 0; length = 0; septet = 0 }
 
 -- document 01: places beyond the length are zero
@@ -17,7 +17,7 @@ abbrev pub padded : ℕ → List ℕ → List ℕ
 padded n block = block ++ replicate (7 - n) 0
 
 -- document 01's "taking top bits out", of the first n bytes
-abbrev pub extracted : List ℕ → ℕ → Block
+abbrev pub extracted : List ℕ → ℕ → Septets
 extracted bytes n =
     choose (ltb 7 n) refused
     (record { number = 0; bytes = padded n (lowBits (take n bytes)); length = n; septet = septetOf (take n bytes) })
@@ -33,7 +33,7 @@ unfit bytes n septet =
     ltb 7 n || (anyHigh (take n bytes) || (leb 0x80 septet || not (eqb (unusedBits n septet) 0)))
 
 -- document 01's "putting them back", to the first n bytes; the septet is used up
-abbrev pub injected : List ℕ → ℕ → ℕ → Block
+abbrev pub injected : List ℕ → ℕ → ℕ → Septets
 injected bytes n septet =
     choose (unfit bytes n septet) refused
     (record { number = 0; bytes = padded n (withTopBits septet (take n bytes)); length = n; septet = 0 })

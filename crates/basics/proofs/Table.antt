@@ -1,0 +1,72 @@
+-- Laws of a table of refusals, and of what is answered by it.
+use Prim.Native.Nat.{ℕ, _<_}
+use native.Mathlib.Omega.{arith}
+use mathlib.Core.Path.{_≡_, refl, sym, _∙_}
+use mathlib.Core.Logic.{_≢_}
+use mathlib.Core.Bool.{Bool, true, false}
+use mathlib.Core.List.{List, [], _∷_, _++_}
+use lib.Dec.{eqb}
+use borrow.Author.Tests.{eq-eqb, ne-eqb}
+use Rattle.basics.specs.Choice.{choose, first}
+
+-- no line has number 0, which says that no line applies
+abbrev pub Numbered : List (Bool × ℕ) → Type 0
+Numbered [] = Unit {0}
+Numbered ((applies, number) ∷ rest) = (0 < number) × Numbered rest
+
+-- a line that applies comes before all that follow it
+pub first-kept : (lines more : List (Bool × ℕ)) → first lines ≢ 0 → first (lines ++ more) ≡ first lines
+unfolding choose
+first-kept [] more h = absurd (h refl)
+first-kept ((true, number) ∷ rest) more h = refl
+first-kept ((false, number) ∷ rest) more h = first-kept rest more h
+
+-- where no line applies, those that follow decide
+pub first-next : (lines more : List (Bool × ℕ)) → Numbered lines → first lines ≡ 0 → first (lines ++ more) ≡ first more
+unfolding choose
+first-next [] more n e = refl
+first-next ((true, number) ∷ rest) more n e = absurd (omega arith)
+first-next ((false, number) ∷ rest) more n e = first-next rest more (n .1) e
+
+-- no line applies in two tables exactly if none does in either
+pub first-none : (lines more : List (Bool × ℕ)) → Numbered lines → first (lines ++ more) ≡ 0 → (first lines ≡ 0) × (first more ≡ 0)
+unfolding choose
+first-none [] more n e = (refl, e)
+first-none ((true, number) ∷ rest) more n e = absurd (omega arith)
+first-none ((false, number) ∷ rest) more n e = first-none rest more (n .1) e
+
+-- a first line that doesn't apply
+pub line-passed : (applies : Bool) (number rest : ℕ) → 0 < number → choose applies number rest ≡ 0 → (applies ≡ false) × (rest ≡ 0)
+unfolding choose
+line-passed true number rest pos e = absurd (omega arith)
+line-passed false number rest pos e = (refl, e)
+
+-- what is given where nothing is refused, and otherwise
+module _ {A : Type 0} (number : ℕ) (given other : A) where
+  pub when-none : number ≡ 0 → choose (eqb number 0) given other ≡ given
+  unfolding choose
+  when-none e = rw (eq-eqb number 0 e)
+
+  pub when-refused : number ≢ 0 → choose (eqb number 0) given other ≡ other
+  unfolding choose
+  when-refused e = rw (ne-eqb number 0 e)
+
+-- ── a table with one line more
+
+module _ (lines : List (Bool × ℕ)) (test : Bool) (number : ℕ) where
+  abbrev longer : List (Bool × ℕ)
+  longer = lines ++ ((test, number) ∷ [])
+
+  -- refused by an earlier line
+  pub last-unasked : (x : ℕ) → x ≡ first lines → x ≢ 0 → first longer ≡ x
+  last-unasked x is refused = first-kept lines ((test, number) ∷ []) (λ e. refused (is ∙ e)) ∙ sym is
+
+  module _ (numbered : Numbered lines) where
+    pub last-passed : 0 < number → first longer ≡ 0 → (first lines ≡ 0) × (test ≡ false)
+    last-passed pos e =
+        let both = first-none lines ((test, number) ∷ []) numbered e in
+        (both .0, line-passed test number 0 pos (both .1) .0)
+
+    -- refused by this line, or not at all
+    pub last-decides : first lines ≡ 0 → first longer ≡ choose test number 0
+    last-decides none = first-next lines ((test, number) ∷ []) numbered none
