@@ -12,7 +12,7 @@ use Rattle.checksum.specs.Checksum.{checksumOf}
 use Rattle.septet.specs.Septet.{unusedBits}
 use Rattle.stream.specs.Layout.{kind, streamLength}
 use Rattle.stream.specs.Validation.{frameRule, ruleAt, breach, faultAt}
-use Rattle.stream.specs.Stage.{Clean, Reached, whole, found, frameFault, AllLow, FirstHigh, Lesser, FramesFrom, RightUpTo}
+use Rattle.stream.specs.Stage.{Clean, Reached, whole, found, frameFault, AllLow, FirstHigh, IsMin, FramesFrom, RightUpTo}
 use Rattle.stream.proofs.Faults.{place-any, place-septet, place-sum, by-place, septet-right, septet-wrong, septet-held, frameSum-right, frameSum-wrong, frameSum-held, frame-high, frame-low, frame-low-held, frame-part, breach-any, stop-reached}
 use Rattle.stream.proofs.Reached.{through, joined, moved}
 
@@ -134,15 +134,15 @@ module _ (s : List ℕ) (a width end : ℕ) (frames : FramesFrom s a width end) 
         }
 
 -- the first of them isn't right: what it brings, or its n bytes up to the input's end, the stream brings
-pub frames-stop : (s : List ℕ) (a width end n : ℕ) {v k : ℕ} → RightUpTo s a width end → a < end → Lesser (width + 2) (length s - a) n
+pub frames-stop : (s : List ℕ) (a width end n : ℕ) {v k : ℕ} → RightUpTo s a width end → a < end → IsMin (width + 2) (length s - a) n
     → Reached (frameFault width (partOf s a (a + n))) (width + 2) (length (partOf s a (a + n))) v k → Reached (faultAt s) (streamLength s) (length s) v (a + k)
-frames-stop s a width end n {v} {k} right more lesser reached =
+frames-stop s a width end n {v} {k} right more min reached =
     let frames = right .frames in
-    let inside : a + n ≤ length s = omega (arith, frames .there, lesser .right) in
+    let inside : a + n ≤ length s = omega (arith, frames .there, min .right) in
     let size = length-part s a (a + n) inside in
     moved (faultAt s) (frameFault width (partOf s a (a + n))) a (width + 2) (streamLength s) (length s) (length (partOf s a (a + n))) v k (frames .clean)
     (λ i short there. same s a width end frames (a + n) i short (omega arith))
     (omega (arith, room s a width end frames more, frames .total)) (omega arith)
-    (λ cut. dite (decLt n (length s - a)) (λ less. absurd (omega (arith, lesser .most (suc n) (omega arith) less))) (λ no. omega arith))
+    (λ cut. dite (decLt n (length s - a)) (λ less. absurd (omega (arith, min .most (suc n) (omega arith) less))) (λ no. omega arith))
     (λ long clean. right .stops more (omega arith) (first-clean s a width end frames (a + n) (omega arith) .0 clean))
     reached

@@ -12,11 +12,12 @@ use lib.ListN.{length, drop}
 use lib.Seq.{drop-cons, drop-length}
 use Rattle.basics.specs.Choice.{choose}
 use Rattle.stream.specs.Layout.{streamLength}
-use Rattle.stream.specs.Validation.{Answer, faultAt, validationFrom, validationOf}
+use Rattle.stream.specs.Validation.{faultAt, validationFrom, validationOf}
+use Rattle.stream.specs.declared.Validation.{Validation}
 use Rattle.stream.specs.Stage.{Clean, Reached, whole, ended, found}
 
-abbrev answer : ℕ → ℕ → Answer
-answer v k = record { number = v; offset = k }
+abbrev answer : ℕ → ℕ → Validation
+answer v k = record { verdict = v; offset = k }
 
 -- ── what is reached is the answer
 
@@ -57,7 +58,7 @@ sound s v k (found e bad clean below inside) =
 -- ── and the answer is reached
 
 reached-from : (s : List ℕ) (k : ℕ) (rest : List ℕ) → length rest + k ≡ length s → Clean (faultAt s) k → k ≤ streamLength s
-    → Reached (faultAt s) (streamLength s) (length s) (validationFrom s k rest .number) (validationFrom s k rest .offset)
+    → Reached (faultAt s) (streamLength s) (length s) (validationFrom s k rest .verdict) (validationFrom s k rest .offset)
 unfolding validationFrom choose
 reached-from s k [] len clean below =
     dite (ℕ-discrete k (streamLength s))
@@ -72,7 +73,7 @@ reached-from s k (byte ∷ rest) len clean below =
     (reached-from s (suc k) rest (omega arith) (rw (← add-one) (below-more (λ (n : ℕ). faultAt s n ≡ 0) k clean here)) (omega arith)))
     (λ bad. simp (ne-eqb (faultAt s k) 0 bad) (found refl (omega arith) clean (omega arith) (omega arith)))))
 
-pub complete : (s : List ℕ) → Reached (faultAt s) (streamLength s) (length s) (validationOf s .number) (validationOf s .offset)
+pub complete : (s : List ℕ) → Reached (faultAt s) (streamLength s) (length s) (validationOf s .verdict) (validationOf s .offset)
 complete s = reached-from s 0 s (omega arith) (λ i h. absurd (omega arith)) (omega arith)
 
 -- ── a part, and what follows it
@@ -134,9 +135,9 @@ whole-to s v k (whole z o clean inside) w = (o, inside, clean)
 whole-to s v k (ended z o clean below) w = absurd (omega arith)
 whole-to s v k (found e bad clean below inside) w = absurd (omega arith)
 
-pub whole-clean : (s : List ℕ) → validationOf s .number ≡ 0 → WholeTo s
+pub whole-clean : (s : List ℕ) → validationOf s .verdict ≡ 0 → WholeTo s
 whole-clean s w =
-    let (offset, held, clean) = whole-to s (validationOf s .number) (validationOf s .offset) (complete s) w in
+    let (offset, held, clean) = whole-to s (validationOf s .verdict) (validationOf s .offset) (complete s) w in
     record { offset = offset; held = held; clean = clean }
 
 pub clean-whole : (s : List ℕ) → Clean (faultAt s) (streamLength s) → streamLength s ≤ length s → validationOf s ≡ answer 0 (streamLength s)

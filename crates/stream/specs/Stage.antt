@@ -22,7 +22,7 @@ pub data Reached (fault : ℕ → ℕ) (total n v k : ℕ) : Type 0 where
 
 -- r is what the first `total` bytes of s bring
 abbrev pub ReachedTo : List ℕ → ℕ → Validation → Type 0
-ReachedTo s total r = Reached (faultAt s) total (length s) (number (r .verdict)) (r .offset)
+ReachedTo s total r = Reached (faultAt s) total (length s) (r .verdict) (r .offset)
 
 -- r is what s brings
 abbrev pub ReachedAll : List ℕ → Validation → Type 0
@@ -34,7 +34,7 @@ frameFault width part i = choose (leb 0x80 (getD part i 0)) 2 (breach (frameRule
 
 -- r is what a frame of the given width brings, of which part is what there is
 abbrev pub ReachedFrame : ℕ → List ℕ → Validation → Type 0
-ReachedFrame width part r = Reached (frameFault width part) (width + 2) (length part) (number (r .verdict)) (r .offset)
+ReachedFrame width part r = Reached (frameFault width part) (width + 2) (length part) (r .verdict) (r .offset)
 
 -- no byte of s is 0x80 or more
 abbrev pub AllLow : List ℕ → Type 0
@@ -83,8 +83,8 @@ pub record RightUpTo (s : List ℕ) (start width end : ℕ) : Type 0 where
   pub frames : FramesFrom s start width end
   pub stops : start < end → start + (width + 2) ≤ length s → Clean (faultAt s) (start + (width + 2)) → ⊥
 
--- r is the lesser of two numbers
-pub record Lesser (a b r : ℕ) : Type 0 where
+-- r is the min of two numbers
+pub record IsMin (a b r : ℕ) : Type 0 where
   pub left : r ≤ a
   pub right : r ≤ b
   pub most : (x : ℕ) → x ≤ a → x ≤ b → x ≤ r
@@ -92,5 +92,5 @@ pub record Lesser (a b r : ℕ) : Type 0 where
 -- r says what stopped a search for high bytes
 pub record StoppedAt (s : List ℕ) (stop : ℕ) (r : Validation) : Type 0 where
   pub here : r .offset ≡ stop
-  pub high : stop < length s → number (r .verdict) ≡ 2
-  pub ends : length s ≤ stop → number (r .verdict) ≡ 7
+  pub high : stop < length s → r .verdict ≡ 2
+  pub ends : length s ≤ stop → r .verdict ≡ 7

@@ -25,14 +25,6 @@ number UnusedSeptetBit = 5
 number FrameChecksum = 6
 number Ended = 7
 
--- an answer in the paper's terms: the verdict's number, with the offset
-pub record Answer : Type 0 where
-  pub number : ℕ
-  pub offset : ℕ
-
-abbrev pub answerOf : Validation → Answer
-answerOf r = record { number = number (r .verdict); offset = r .offset }
-
 -- what a byte must be by its place: any byte; the version of no kind, never right; the septet of so many bytes;
 -- the checksum of offsets 1 to n; the checksum of a frame's payload bytes and septet
 pub data Rule : Type 0 where
@@ -74,16 +66,16 @@ faultAt s k =
 
 -- faults are sought by rising offset, here from k on, where rest is what s has from there: V0 where the stream's length is reached,
 -- the first fault, or V7 where the input ends first
-unfoldable pub validationFrom : List ℕ → ℕ → List ℕ → Answer
-validationFrom s k [] = record { number = choose (eqb k (streamLength s)) 0 7; offset = k }
+unfoldable pub validationFrom : List ℕ → ℕ → List ℕ → Validation
+validationFrom s k [] = record { verdict = choose (eqb k (streamLength s)) 0 7; offset = k }
 validationFrom s k (byte ∷ rest) =
-    choose (eqb k (streamLength s)) (record { number = 0; offset = k })
-    (choose (eqb (faultAt s k) 0) (validationFrom s (suc k) rest) (record { number = faultAt s k; offset = k }))
+    choose (eqb k (streamLength s)) (record { verdict = 0; offset = k })
+    (choose (eqb (faultAt s k) 0) (validationFrom s (suc k) rest) (record { verdict = faultAt s k; offset = k }))
 
 -- what is said of a stretch, from its first byte on
-abbrev pub validationOf : List ℕ → Answer
+abbrev pub validationOf : List ℕ → Validation
 validationOf s = validationFrom s 0 s
 
 -- the stretch is V0: it begins with one whole valid stream
 abbrev pub isWhole : List ℕ → Bool
-isWhole s = eqb (validationOf s .number) 0
+isWhole s = eqb (validationOf s .verdict) 0

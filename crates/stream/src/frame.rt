@@ -8,10 +8,10 @@ ghost use Rattle.stream.specs.Stage.{Clean, ReachedFrame, ReachedAll, fr
 use crate::Validation;
 use crate::Verdict;
 use crate::at;
-use crate::bytes::all_low;
-use crate::bytes::first_high;
-use crate::bytes::lesser;
-use crate::bytes::stopped;
+use crate::high_bytes::all_low;
+use crate::high_bytes::first_high;
+use crate::high_bytes::min;
+use crate::high_bytes::stopped;
 
 // The verdict on the frame that `part` is, or that it is cut off in.
 fn check(part: &[u8], width: usize) -> Validation
@@ -80,9 +80,11 @@ pub fn validate_from(input: &[u8], a: usize, width: usize, end: usize) -> Valida
     if end <= a {
         return at(Verdict::Whole, a);
     }
-    // Not `lesser(a + (width + 2), ..)`: for that sum the compiler would keep a second counter in the loop of `skip_right`.
-    let e = a + lesser(width + 2, input.len() - a);
+    // Not `min(a + (width + 2), ..)`: for that sum the compiler would keep a second counter in the loop of `skip_right`.
+    let e = a + min(width + 2, input.len() - a);
     let r = check(&input[a..e], width);
-    let verdict = r.verdict;
-    at(verdict, a + r.offset)
+    Validation {
+        verdict: r.verdict,
+        offset: a + r.offset,
+    }
 }

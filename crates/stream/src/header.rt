@@ -6,10 +6,11 @@ use crate::Kind;
 use crate::Validation;
 use crate::Verdict;
 use crate::at;
-use crate::bytes::first_high;
-use crate::bytes::stopped;
+use crate::high_bytes::first_high;
+use crate::high_bytes::stopped;
 use crate::frame::skip_right;
 use crate::frame::validate_from;
+use crate::telegram_frames;
 
 // The verdict on a header whose checksum stands at `place`.
 fn check(input: &[u8], place: usize) -> Validation
@@ -49,7 +50,7 @@ fn telegram(input: &[u8]) -> Validation
     if r.offset < 8 {
         return r;
     }
-    let end = 8 + 9 * (input[6] as usize / 32 % 4);
+    let end = 8 + 9 * telegram_frames(input[6] as u16);
     validate_from(input, skip_right(input, 8, 7, end), 7, end)
 }
 

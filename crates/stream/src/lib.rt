@@ -1,9 +1,9 @@
 // One stream on the wire, validated from its first byte (document 01: judging).
 ghost use mathlib.Core.Path.{_≡_};
-ghost use Rattle.stream.specs.Layout.{kindOf};
-ghost use Rattle.stream.specs.Validation.{number, answerOf, validationOf};
+ghost use Rattle.stream.specs.Layout.{kindOf, telegramFrames, payloadLength};
+ghost use Rattle.stream.specs.Validation.{number, validationOf};
 
-mod bytes;
+mod high_bytes;
 mod frame;
 mod header;
 
@@ -53,16 +53,20 @@ impl Verdict {
     }
 }
 
-// A verdict, with the offset that it was reached at.
+// A verdict's number, with the offset that it was reached at.
+#[repr(C)]
 pub struct Validation {
-    pub verdict: Verdict,
+    pub verdict: u8,
     pub offset: usize,
 }
 
 fn at(verdict: Verdict, offset: usize) -> Validation
-    ensures { λ r. ⌜ r ≡ record { verdict = verdict; offset = offset } ⌝ }
+    ensures { λ r. ⌜ r ≡ record { verdict = number verdict; offset = offset } ⌝ }
 {
-    Validation { verdict, offset }
+    Validation {
+        verdict: verdict.number(),
+        offset,
+    }
 }
 
 // A stream's kind, by its version byte.
@@ -78,9 +82,28 @@ pub fn kind_of(version: u8) -> Kind
     }
 }
 
+// The frame count that bits 5-6 of a telegram's command say.
+pub fn telegram_frames(command: u16) -> usize
+    ensures { λ r. ⌜ r ≡ telegramFrames command ⌝ }
+{
+    command as usize / 32 % 4
+}
+
+// The length of the payload of so many frames.
+pub fn payload_length(kind: Kind, frames: u8) -> usize
+    ensures { λ r. ⌜ r ≡ payloadLength kind frames ⌝ }
+{
+    match kind {
+        Kind::Packet => 4 * (frames as usize),
+        Kind::Datagram => 6,
+        Kind::Telegram => 7 * (frames as usize),
+        Kind::Unknown => 0,
+    }
+}
+
 // The verdict on the stream that `input` begins with. It stops at the first fault.
 pub fn validate(input: &[u8]) -> Validation
-    ensures { λ r. ⌜ answerOf r ≡ validationOf (now (input .entry)) ⌝ }
+    ensures { λ r. ⌜ r ≡ validationOf (now (input .entry)) ⌝ }
 {
     if input.len() == 0 {
         return at(Verdict::Ended, 0);
@@ -88,9 +111,9 @@ pub fn validate(input: &[u8]) -> Validation
     if input[0] != 0xAA {
         return at(Verdict::NoSync, 0);
     }
-    let stop = bytes::first_high(input, 1, 6);
+    let stop = high_bytes::first_high(input, 1, 6);
     if stop < 6 {
-        return bytes::stopped(input, stop);
+        return high_bytes::stopped(input, stop);
     }
     header::validate(input)
 }

@@ -1,7 +1,6 @@
 -- `stream::validate` meets its contract: each answer is what the stretch reaches, which is the definition's answer. Assumes nothing.
 use native.Mathlib.Omega.{arith}
-use mathlib.Core.Path.{ap, _∙_}
-use Rattle.stream.specs.Validation.{answerOf}
+use mathlib.Core.Path.{_∙_}
 use Rattle.stream.proofs.Headers.{nothing, no-sync, address-stops, address-clean}
 use Rattle.stream.proofs.Reached.{sound}
 use borrow.Author.Needs.{needs}
@@ -12,7 +11,7 @@ at-requires : tie.Need-at-requires
 at-requires c κs = search needs
 
 returns : tie.Need-returns
-returns c = ap answerOf (c .at .ensures) ∙ sound _ _ _ (nothing _ (c .before .if1 .taken))
+returns c = c .at .ensures ∙ sound _ _ _ (nothing _ (c .before .if1 .taken))
 
 shared-slice-read-if2 : tie.Need-shared-slice-read-if2
 shared-slice-read-if2 c = search needs
@@ -21,7 +20,7 @@ at-requires-2 : tie.Need-at-requires-2
 at-requires-2 c κs = search needs
 
 returns-2 : tie.Need-returns-2
-returns-2 c = ap answerOf (c .at2 .ensures) ∙ sound _ _ _ (no-sync _ (c .before .if2 .taken) (omega arith))
+returns-2 c = c .at2 .ensures ∙ sound _ _ _ (no-sync _ (c .before .if2 .taken) (omega arith))
 
 first-high-requires : tie.Need-first-high-requires
 first-high-requires c κs = search needs

@@ -12,19 +12,19 @@ at-requires c κs = search needs
 returns : tie.Need-returns
 returns c = rw (c .at .ensures) (frames-end _ _ _ _ (c .before .before .before .pre .frames) (c .before .if1 .taken))
 
-add-lesser : tie.Need-add-lesser
-add-lesser c = omega (arith, c .before .before .pre .frames .narrow)
+add-min : tie.Need-add-min
+add-min c = omega (arith, c .before .before .pre .frames .narrow)
 
-sub-lesser : tie.Need-sub-lesser
-sub-lesser c = c .before .before .pre .frames .there
+sub-min : tie.Need-sub-min
+sub-min c = c .before .before .pre .frames .there
 
-lesser-requires : tie.Need-lesser-requires
-lesser-requires c κs = search needs
+min-requires : tie.Need-min-requires
+min-requires c κs = search needs
 
 add-e : tie.Need-add-e
 add-e c =
     let frames = c .before .before .before .pre .frames in
-    omega (arith, c .lesser .ensures .left, frames .there, frames .narrow)
+    omega (arith, c .min .ensures .left, frames .there, frames .narrow)
 
 sub-check : tie.Need-sub-check
 sub-check c = search needs
@@ -33,24 +33,21 @@ part-check-start : tie.Need-part-check-start
 part-check-start c = search needs
 
 part-check-end : tie.Need-part-check-end
-part-check-end c = omega (arith, c .lesser .ensures .right, c .before .before .before .pre .frames .there)
+part-check-end c = omega (arith, c .min .ensures .right, c .before .before .before .pre .frames .there)
 
 check-requires : tie.Need-check-requires
 check-requires c κs = search needs
 
-add-at : tie.Need-add-at
-add-at c =
+add-t12 : tie.Need-add-t12
+add-t12 c =
     let frames = c .before .before .before .before .before .before .pre .frames in
     omega (arith, bounded (c .before .check .ensures), frames .there, frames .narrow)
 
-at-requires-2 : tie.Need-at-requires-2
-at-requires-2 c κs = search needs
-
 returns-2 : tie.Need-returns-2
 returns-2 c =
-    let start = c .before .before .before .before .before .before .before in
-    let lesser = c .before .before .before .before .lesser in
-    rw (c .at2 .ensures) (frames-stop _ (start .args .a) _ _ (lesser .result) (start .pre) (omega arith) (lesser .ensures) (c .before .before .check .ensures))
+    let start = c .before .before .before .before .before .before in
+    let min = c .before .before .before .min in
+    frames-stop _ (start .args .a) _ _ (min .result) (start .pre) (omega arith) (min .ensures) (c .before .check .ensures)
 
 pub validate-from-spec : {M : Type 1} → statement M
 validate-from-spec =
@@ -58,14 +55,13 @@ validate-from-spec =
     (tie.spec
     at-requires
     returns
-    add-lesser
-    sub-lesser
-    lesser-requires
+    add-min
+    sub-min
+    min-requires
     add-e
     sub-check
     part-check-start
     part-check-end
     check-requires
-    add-at
-    at-requires-2
+    add-t12
     returns-2)

@@ -14,22 +14,26 @@ check-requires c κs = checksum-at Telegram 7 telegram-ends _ (c .before .pre) (
 returns : tie.Need-returns
 returns c = early (c .before .before .check .ensures) (c .if1 .taken) (header-within Telegram 7 telegram-ends _ (c .before .before .before .before .pre))
 
-shared-slice-read-end : tie.Need-shared-slice-read-end
-shared-slice-read-end c = omega (arith, bounded (c .before .before .before .check .ensures))
+shared-slice-read-telegram-frames : tie.Need-shared-slice-read-telegram-frames
+shared-slice-read-telegram-frames c = omega (arith, bounded (c .before .before .before .check .ensures))
 
-cast-end : tie.Need-cast-end
-cast-end c = omega (arith, c .shared-slice-known2 .given 6)
+cast-telegram-frames : tie.Need-cast-telegram-frames
+cast-telegram-frames c = omega (arith, c .shared-slice-known2 .given 6)
+
+telegram-frames-requires : tie.Need-telegram-frames-requires
+telegram-frames-requires c κs = search needs
 
 mul-end : tie.Need-mul-end
-mul-end c = omega (arith, c .shared-slice-known2 .given 6)
+mul-end c = omega (arith, c .telegram-frames .ensures)
 
 add-end : tie.Need-add-end
-add-end c = omega (arith, c .shared-slice-known2 .given 6)
+add-end c = omega (arith, c .telegram-frames .ensures)
 
 skip-right-requires : tie.Need-skip-right-requires
 unfolding frameWidth frameCount
 skip-right-requires c κs =
-    frames-from Telegram 7 telegram-ends _ (c .before .before .before .before .before .pre) (c .before .before .before .check .ensures) (omega arith) (omega arith)
+    rw (c .telegram-frames .ensures)
+    (frames-from Telegram 7 telegram-ends _ (c .before .before .before .before .before .before .pre) (c .before .before .before .before .check .ensures) (omega arith) (omega arith))
 
 validate-from-requires : tie.Need-validate-from-requires
 validate-from-requires c κs = c .skip-right .ensures
@@ -43,8 +47,9 @@ telegram-spec =
     (tie.spec
     check-requires
     returns
-    shared-slice-read-end
-    cast-end
+    shared-slice-read-telegram-frames
+    cast-telegram-frames
+    telegram-frames-requires
     mul-end
     add-end
     skip-right-requires

@@ -1,4 +1,4 @@
--- `stream::bytes::all_low` meets its contract: what the bytes make together is low exactly if each of them is. Assumes nothing.
+-- `stream::high_bytes::all_low` meets its contract: what the bytes make together is low exactly if each of them is. Assumes nothing.
 use borrow.Author.Needs.{needs}
 use borrow.Author.Count.{below-more}
 use borrow.Author.Tests.{ltb-true, lt-ltb}
@@ -8,8 +8,8 @@ use mathlib.Core.List.{List}
 use mathlib.Core.Logic.{_↔_}
 use lib.ListN.{length, getD}
 use lib.Bits.{bitOr, or-add-and, and-le-l, and-le-r, or-lt}
-use Rattle.stream.proofs.bytes.all_low.Statement.{statement}
-use Rattle.stream.proofs.bytes.all_low.Tie as tie
+use Rattle.stream.proofs.high_bytes.all_low.Statement.{statement}
+use Rattle.stream.proofs.high_bytes.all_low.Tie as tie
 
 -- what two bytes make together is low exactly if both are
 joined-low : (a b : ℕ) → (bitOr a b < 0x80 → (a < 0x80) × (b < 0x80)) × (a < 0x80 → b < 0x80 → bitOr a b < 0x80)

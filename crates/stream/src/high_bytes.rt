@@ -4,13 +4,13 @@ ghost use mathlib.Core.Path.{_≡_};
 ghost use mathlib.Core.Bool.{true};
 ghost use mathlib.Core.Logic.{_↔_};
 ghost use lib.ListN.{length};
-ghost use Rattle.stream.specs.Stage.{AllLow, FirstHigh, Lesser, StoppedAt};
+ghost use Rattle.stream.specs.Stage.{AllLow, FirstHigh, IsMin, StoppedAt};
 use crate::Validation;
 use crate::Verdict;
 use crate::at;
 
-pub fn lesser(a: usize, b: usize) -> usize
-    ensures { λ r. ⌜ Lesser a b r ⌝ }
+pub fn min(a: usize, b: usize) -> usize
+    ensures { λ r. ⌜ IsMin a b r ⌝ }
 {
     if a < b { a } else { b }
 }
@@ -53,7 +53,7 @@ pub fn first_high(s: &[u8], from: usize, limit: usize) -> usize
             return limit;
         }
     }
-    search(s, from, lesser(limit, s.len()))
+    search(s, from, min(limit, s.len()))
 }
 
 // What stopped a search for high bytes at `stop`: a high byte, or the end.

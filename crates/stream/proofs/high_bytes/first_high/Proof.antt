@@ -1,4 +1,4 @@
--- `stream::bytes::first_high` meets its contract: where a joined look finds no high byte, none is there. Assumes nothing.
+-- `stream::high_bytes::first_high` meets its contract: where a joined look finds no high byte, none is there. Assumes nothing.
 use borrow.Author.Needs.{needs}
 use Prim.Native.Nat.{ℕ, _+_, _-_, _≤_, _<_}
 use native.Mathlib.Omega.{arith}
@@ -6,9 +6,9 @@ use mathlib.Core.List.{List}
 use mathlib.Core.Path.{_≡_, ap, _∙_}
 use lib.ListN.{length, getD, take, drop, length-drop}
 use lib.Seq.{getD-take, getD-drop, length-take-le}
-use Rattle.stream.specs.Stage.{AllLow, FirstHigh, Lesser}
-use Rattle.stream.proofs.bytes.first_high.Statement.{statement}
-use Rattle.stream.proofs.bytes.first_high.Tie as tie
+use Rattle.stream.specs.Stage.{AllLow, FirstHigh, IsMin}
+use Rattle.stream.proofs.high_bytes.first_high.Statement.{statement}
+use Rattle.stream.proofs.high_bytes.first_high.Tie as tie
 
 -- a part without high bytes
 part-low : (s : List ℕ) (from limit : ℕ) → limit ≤ length s → AllLow (take (limit - from) (drop from s)) → (i : ℕ) → i < limit → from ≤ i → getD s i 0 < 0x80
@@ -21,14 +21,14 @@ part-low s from limit inside low i below above =
     omega (arith, same, low (i - from) (omega arith))
 
 -- what is found up to the end or the limit, whichever comes first
-up-to-lesser : {s : List ℕ} {from limit end r : ℕ} → Lesser limit (length s) end → FirstHigh s from end r → FirstHigh s from limit r
-up-to-lesser {r} lesser first =
+up-to-min : {s : List ℕ} {from limit end r : ℕ} → IsMin limit (length s) end → FirstHigh s from end r → FirstHigh s from limit r
+up-to-min {r} min first =
     record {
       after = first .after;
-      before = omega (arith, first .before, lesser .left);
+      before = omega (arith, first .before, min .left);
       within = first .within;
       low = first .low;
-      high = λ short inside. first .high (omega (arith, lesser .most (r + 1) (omega arith) (omega arith))) inside;
+      high = λ short inside. first .high (omega (arith, min .most (r + 1) (omega arith) (omega arith))) inside;
     }
 
 sub-all-low : tie.Need-sub-all-low
@@ -53,14 +53,14 @@ returns c =
       high = λ short inside. absurd (omega arith);
     }
 
-lesser-requires : tie.Need-lesser-requires
-lesser-requires c κs = search needs
+min-requires : tie.Need-min-requires
+min-requires c κs = search needs
 
 search-requires : tie.Need-search-requires
-search-requires c κs = (c .lesser .ensures .most _ (omega arith) (omega arith), c .lesser .ensures .right)
+search-requires c κs = (c .min .ensures .most _ (omega arith) (omega arith), c .min .ensures .right)
 
 returns-2 : tie.Need-returns-2
-returns-2 c = up-to-lesser (c .before .lesser .ensures) (c .search .ensures)
+returns-2 c = up-to-min (c .before .min .ensures) (c .search .ensures)
 
 pub first-high-spec : {M : Type 1} → statement M
 first-high-spec =
@@ -71,6 +71,6 @@ first-high-spec =
     part-all-low-end
     all-low-requires
     returns
-    lesser-requires
+    min-requires
     search-requires
     returns-2)

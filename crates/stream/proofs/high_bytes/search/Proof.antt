@@ -1,11 +1,11 @@
--- `stream::bytes::search` meets its contract: every byte that the loop passed is low. Assumes nothing.
+-- `stream::high_bytes::search` meets its contract: every byte that the loop passed is low. Assumes nothing.
 use borrow.Author.Needs.{needs}
 use borrow.Author.Count.{below-more}
 use Prim.Native.Nat.{ℕ, _≤_, _<_, _-_}
 use native.Mathlib.Omega.{arith}
 use lib.ListN.{length, getD}
-use Rattle.stream.proofs.bytes.search.Statement.{statement}
-use Rattle.stream.proofs.bytes.search.Tie as tie
+use Rattle.stream.proofs.high_bytes.search.Statement.{statement}
+use Rattle.stream.proofs.high_bytes.search.Tie as tie
 
 abbrev Inv-loop : tie.InvT-loop
 Inv-loop s from end i₀ i = (from ≤ i) × (i ≤ end) × ((k : ℕ) → k < i → from ≤ k → getD s k 0 < 0x80)
