@@ -18,7 +18,7 @@ use Rattle.stream.specs.Layout.{kindOf, headerLength, frameWidth, payloadLength
 use Rattle.stream.specs.declared.Kind.{Kind}
 use Rattle.stream.specs.declared.Kind.the-variants.{Packet, Datagram, Telegram, Unknown}
 use Rattle.record.specs.Record.{Record, framesIn, streamAs, streamOf}
-use Rattle.record.specs.Encode.{isUnknown, commandHigh, lengthWrong, linesAs, unwritable, refusal, InRange, Writable}
+use Rattle.record.specs.Encode.{isUnknown, highCommand, wrongLength, linesAs, unwritable, refusal, InRange, Writable}
 use Rattle.record.proofs.Lengths.{few-frames, right-length, length-stream}
 
 -- both bytes of a word are without their top bits
@@ -42,13 +42,13 @@ CommandLow Datagram command = SevenBitWord command
 CommandLow Telegram command = command < 128
 CommandLow Unknown command = Unit {0}
 
-low-command : (K : Kind) (command : ℕ) → command < 65536 → commandHigh K command ≡ false → CommandLow K command
+low-command : (K : Kind) (command : ℕ) → command < 65536 → highCommand K command ≡ false → CommandLow K command
 low-command Packet command fits h = low-word command fits h
 low-command Datagram command fits h = low-word command fits h
 low-command Telegram command fits h = omega (arith, ltb-false 0x7F command h)
 low-command Unknown command fits h = tt
 
-not-high-command : (K : Kind) (command : ℕ) → CommandLow K command → commandHigh K command ≡ false
+not-high-command : (K : Kind) (command : ℕ) → CommandLow K command → highCommand K command ≡ false
 not-high-command Packet command low = not-high command low
 not-high-command Datagram command low = not-high command low
 not-high-command Telegram command low = le-ltb 0x7F command (omega arith)
@@ -63,22 +63,35 @@ pub record Carried (K : Kind) (r : Record) : Type 0 where
   pub few : framesIn K r ≤ 127
   pub sized : length (r .payload) ≡ payloadLength K (framesIn K r)
 
+-- each of the lines 1 to 4 that doesn't apply
+pub record Passed (K : Kind) (r : Record) : Type 0 where
+  pub known : isUnknown K ≡ false
+  pub destination : highWord (r .header .destination) ≡ false
+  pub source : highWord (r .header .source) ≡ false
+  pub command : highCommand K (r .header .command) ≡ false
+  pub payload : wrongLength K (r .header .command) (length (r .payload)) ≡ false
+
+pub passed : (K : Kind) (r : Record) → first (linesAs K r) ≡ 0 → Passed K r
+passed K r e =
+    let h = r .header in
+    let one = line-passed (isUnknown K) 1 _ (omega arith) e in
+    let two = line-passed (highWord (h .destination) || highWord (h .source)) 2 _ (omega arith) (one .1) in
+    let three = line-passed (highCommand K (h .command)) 3 _ (omega arith) (two .1) in
+    let four = line-passed (wrongLength K (h .command) (length (r .payload))) 4 0 (omega arith) (three .1) in
+    let addresses = neither (highWord (h .destination)) (highWord (h .source)) (two .0) in
+    record { known = one .0; destination = addresses .0; source = addresses .1; command = three .0; payload = four .0 }
+
 pub carried-of : (K : Kind) (r : Record) → InRange r → first (linesAs K r) ≡ 0 → Carried K r
 carried-of K r range e =
     let h = r .header in
-    let n = length (r .payload) in
-    let one = line-passed (isUnknown K) 1 _ (omega arith) e in
-    let two = line-passed (highWord (h .destination) || highWord (h .source)) 2 _ (omega arith) (one .1) in
-    let three = line-passed (commandHigh K (h .command)) 3 _ (omega arith) (two .1) in
-    let four = line-passed (lengthWrong K (h .command) n) 4 0 (omega arith) (three .1) in
-    let addresses = neither (highWord (h .destination)) (highWord (h .source)) (two .0) in
+    let p = passed K r e in
     record {
-      known = one .0;
-      destination = low-word (h .destination) (range .destination) (addresses .0);
-      source = low-word (h .source) (range .source) (addresses .1);
-      command = low-command K (h .command) (range .command) (three .0);
-      few = few-frames K (h .command) n (four .0);
-      sized = right-length K (h .command) n (four .0);
+      known = p .known;
+      destination = low-word (h .destination) (range .destination) (p .destination);
+      source = low-word (h .source) (range .source) (p .source);
+      command = low-command K (h .command) (range .command) (p .command);
+      few = few-frames K (h .command) (length (r .payload)) (p .payload);
+      sized = right-length K (h .command) (length (r .payload)) (p .payload);
     }
 
 lines-of : (K : Kind) (r : Record) → Carried K r → first (linesAs K r) ≡ 0
@@ -113,7 +126,7 @@ carried-writable r range carried = record { range = range; carried = lines-of (k
 -- ── the refusal, by the record and by the room
 
 -- no line has number 0
-numbered : (K : Kind) (r : Record) → Numbered (linesAs K r)
+pub numbered : (K : Kind) (r : Record) → Numbered (linesAs K r)
 numbered K r = (omega arith, (omega arith, (omega arith, (omega arith, tt))))
 
 module _ (r : Record) (room : ℕ) where

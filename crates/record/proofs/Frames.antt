@@ -14,7 +14,7 @@ use Rattle.septet.specs.Septet.{septetOf, lowBits, withTopBits}
 use Rattle.basics.proofs.Bytes.{all-append, all-take, all-drop, take-below}
 use Rattle.septet.proofs.Laws.{length-lowBits, length-withTopBits, lowBits-below, withTopBits-below, septetOf-below, septetOf-unused, withTopBits-septetOf, lowBits-withTopBits, septetOf-withTopBits-used, unused-below, septet-below}
 use Rattle.stream.proofs.Whole.{FrameRight, frame-drop, drop-frame}
-use Rattle.record.proofs.Writing.{length-withSeptet, length-withChecksum}
+use Rattle.record.proofs.StreamParts.{length-withSeptet, length-withChecksum}
 use Rattle.record.specs.Record.{withChecksum, withSeptet, framed, unframed}
 
 -- ── one frame, with anything behind it

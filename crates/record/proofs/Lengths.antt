@@ -12,15 +12,15 @@ use Rattle.stream.specs.declared.Kind.{Kind}
 use Rattle.stream.specs.declared.Kind.the-variants.{Packet, Datagram, Telegram, Unknown}
 use Rattle.stream.specs.Layout.{headerLength, frameWidth, payloadLength}
 use Rattle.record.specs.Record.{Record, framed, kindBytes, framesOf, framesIn, streamAs}
-use Rattle.record.specs.Encode.{isUnknown, lengthWrong}
-use Rattle.record.proofs.Writing.{framed-length}
+use Rattle.record.specs.Encode.{isUnknown, wrongLength}
+use Rattle.record.proofs.StreamParts.{framed-length}
 
 -- a payload's length that isn't wrong
-pub few-frames : (K : Kind) (command n : ℕ) → lengthWrong K command n ≡ false → framesOf K command n ≤ 127
+pub few-frames : (K : Kind) (command n : ℕ) → wrongLength K command n ≡ false → framesOf K command n ≤ 127
 few-frames K command n h =
     ltb-false 127 (framesOf K command n) (neither (ltb 127 (framesOf K command n)) (not (eqb n (payloadLength K (framesOf K command n)))) h .0)
 
-pub right-length : (K : Kind) (command n : ℕ) → lengthWrong K command n ≡ false → n ≡ payloadLength K (framesOf K command n)
+pub right-length : (K : Kind) (command n : ℕ) → wrongLength K command n ≡ false → n ≡ payloadLength K (framesOf K command n)
 right-length K command n h =
     let right = neither (ltb 127 (framesOf K command n)) (not (eqb n (payloadLength K (framesOf K command n)))) h .1 in
     eqb-true n (payloadLength K (framesOf K command n)) (not-false _ right)
@@ -30,7 +30,7 @@ abbrev pub lengthWritten : Kind → Record → ℕ
 lengthWritten K r = headerLength K + (frameWidth K + 2) * framesIn K r
 
 -- a stream is as long as its kind and its frames say
-pub length-stream : (K : Kind) (r : Record) → isUnknown K ≡ false → lengthWrong K (r .header .command) (length (r .payload)) ≡ false
+pub length-stream : (K : Kind) (r : Record) → isUnknown K ≡ false → wrongLength K (r .header .command) (length (r .payload)) ≡ false
     → length (streamAs K r) ≡ lengthWritten K r
 unfolding streamAs kindBytes framesOf framed frameWidth headerLength payloadLength
 length-stream Packet r known h = omega (arith, framed-length 4 (framesIn Packet r) (r .payload) (omega arith))

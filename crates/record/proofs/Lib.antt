@@ -1,8 +1,8 @@
-pub mod Writing
+pub mod StreamParts
 pub mod Lengths
-pub mod Encoding
 pub mod Frames
 pub mod Carried
-pub mod Written
+pub mod EncodeAnswers
+pub mod WholeAgain
 pub mod ReadBack
 pub mod Samples

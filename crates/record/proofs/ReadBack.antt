@@ -12,7 +12,8 @@ use Rattle.basics.proofs.Bytes.{all-append, getD-below}
 use Rattle.checksum.specs.Checksum.{checksumOf}
 use Rattle.septet.proofs.Laws.{septetOf-unused, withTopBits-septetOf}
 use Rattle.stream.specs.Layout.{headerLength, frameWidth, frameCount, streamLength, payloadLength}
-use Rattle.stream.specs.Validation.{Answer, validationOf}
+use Rattle.stream.specs.Validation.{validationOf}
+use Rattle.stream.specs.declared.Validation.{Validation}
 use Rattle.stream.specs.declared.Kind.{Kind}
 use Rattle.stream.specs.declared.Kind.the-variants.{Packet, Datagram, Telegram, Unknown}
 use Rattle.stream.proofs.Headers.{length-as}
@@ -22,8 +23,8 @@ use Rattle.record.specs.Encode.{refusal, isUnknown, Writable}
 use Rattle.record.specs.Record.{Record, withChecksum, framed, framesOf, framesIn, addressBytes, kindBytes, streamAs, streamOf, recordOf, commandIn, payloadIn}
 use Rattle.record.proofs.Carried.{Carried, carried-length, kindIn, writable-carried, refusal-unwritable}
 use Rattle.record.proofs.Frames.{withSeptet-below, withChecksum-below, withSeptet-septet, withSeptet-low, withChecksum-block, withChecksum-sum, framed-below, framed-right, unframed-framed}
-use Rattle.record.proofs.Writing.{length-withSeptet, length-withChecksum}
-use Rattle.record.proofs.Written.{whole-writable, whole-again}
+use Rattle.record.proofs.StreamParts.{length-withSeptet, length-withChecksum}
+use Rattle.record.proofs.WholeAgain.{whole-writable, whole-again}
 
 -- ── what each kind writes
 
@@ -164,7 +165,7 @@ module _ (r : Record) (w : Writable r) where
             (rw (count-read r (framesBytes r ++ t) (kindIn r)) at h))));
       }
 
-  read-verdict : (t : List ℕ) → validationOf (streamOf r ++ t) ≡ record { number = 0; offset = length (streamOf r) }
+  read-verdict : (t : List ℕ) → validationOf (streamOf r ++ t) ≡ record { verdict = 0; offset = length (streamOf r) }
   read-verdict t =
       let held : streamLength (streamOf r ++ t) ≤ length (streamOf r ++ t) = omega (arith, streamOf-length t, length-append (streamOf r) t) in
       clean-whole (streamOf r ++ t) (clean-of-whole (streamOf r ++ t) (streamOf-whole t)) held ∙ rw (streamOf-length t)
@@ -178,13 +179,13 @@ module _ (r : Record) (w : Writable r) where
       (written r t, destination, source, command-read r (framesBytes r ++ t) (kindIn r) carried, payload-read (kindIn r) r t carried bytes)
 
   -- what is written for a writable record, whatever stands behind it, is whole to its end, and reads as that record
-  pub read-back : (t : List ℕ) → (validationOf (streamOf r ++ t) ≡ record { number = 0; offset = length (streamOf r) }) × (recordOf (streamOf r ++ t) ≡ r)
+  pub read-back : (t : List ℕ) → (validationOf (streamOf r ++ t) ≡ record { verdict = 0; offset = length (streamOf r) }) × (recordOf (streamOf r ++ t) ≡ r)
   read-back t = (read-verdict t, read-record t)
 
 -- ── exactly
 
 -- a stretch begins with a whole stream exactly if it begins with what is written for some writable record, and that record is read
-pub whole-exactly : (s : List ℕ) → (validationOf s .number ≡ 0) ↔ ((r : Record) × (t : List ℕ) × Writable r × (recordOf s ≡ r) × (s ≡ streamOf r ++ t))
+pub whole-exactly : (s : List ℕ) → (validationOf s .verdict ≡ 0) ↔ ((r : Record) × (t : List ℕ) × Writable r × (recordOf s ≡ r) × (s ≡ streamOf r ++ t))
 whole-exactly s = (
   (λ w. (
     recordOf s,
@@ -193,11 +194,11 @@ whole-exactly s = (
     refl,
     sym (ap (λ (l : List ℕ). l ++ drop (validationOf s .offset) s) (whole-again s w) ∙ take-append-drop (validationOf s .offset) s),
   )),
-  (λ (r, t, w, read, e). ap (λ (l : List ℕ). validationOf l .number) e ∙ ap (λ (v : Answer). v .number) (read-back r w t .0)),
+  (λ (r, t, w, read, e). ap (λ (l : List ℕ). validationOf l .verdict) e ∙ ap (λ (v : Validation). v .verdict) (read-back r w t .0)),
 )
 
 -- a record that writing refuses with 1 to 4 is the record of no whole stream
-pub refused-unwritable : (r : Record) (room : ℕ) → 0 < refusal r room → refusal r room < 5 → (s : List ℕ) → validationOf s .number ≡ 0 → recordOf s ≡ r → ⊥
+pub refused-unwritable : (r : Record) (room : ℕ) → 0 < refusal r room → refusal r room < 5 → (s : List ℕ) → validationOf s .verdict ≡ 0 → recordOf s ≡ r → ⊥
 refused-unwritable r room p q s w e =
     let writable : Writable r = subst Writable e (whole-writable s w) in
     omega (arith, refusal-unwritable r room p q, writable .carried)

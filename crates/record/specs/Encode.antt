@@ -8,34 +8,12 @@ use lib.ListN.{length}
 use Rattle.basics.specs.Bytes.{AllBelow}
 use Rattle.basics.specs.Choice.{first}
 use Rattle.basics.specs.Output.{tooShort, answered, outputWith}
-use Rattle.basics.specs.declared.Written.{Written as Answer}
+use Rattle.basics.specs.declared.Written.{Written}
 use Rattle.basics.specs.Words.{highWord}
 use Rattle.stream.specs.Layout.{kindOf, payloadLength}
 use Rattle.stream.specs.declared.Kind.{Kind}
 use Rattle.stream.specs.declared.Kind.the-variants.{Packet, Datagram, Telegram, Unknown}
 use Rattle.record.specs.Record.{Record, framesOf, streamOf}
-use Rattle.record.specs.declared.Encoded.{Encoded}
-use Rattle.record.specs.declared.Encoded.the-variants.{Written, UnknownVersion, HighAddress, HighCommand, WrongLength, OutputTooShort}
-
--- the paper's number of each answer
-abbrev pub number : Encoded → ℕ
-number (Written n) = 0
-number UnknownVersion = 1
-number HighAddress = 2
-number HighCommand = 3
-number WrongLength = 4
-number OutputTooShort = 5
-
-abbrev pub lengthIn : Encoded → ℕ
-lengthIn (Written n) = n
-lengthIn UnknownVersion = 0
-lengthIn HighAddress = 0
-lengthIn HighCommand = 0
-lengthIn WrongLength = 0
-lengthIn OutputTooShort = 0
-
-abbrev pub answerOf : Encoded → Answer
-answerOf e = record { number = number e; length = lengthIn e }
 
 -- 1: the version is none of 10, 20, 30, 31 hex
 abbrev pub isUnknown : Kind → Bool
@@ -45,23 +23,23 @@ isUnknown Telegram = false
 isUnknown Unknown = true
 
 -- 3: a packet's or datagram's command has bit 7 or 15 set, or a telegram's is above 0x7F
-abbrev pub commandHigh : Kind → ℕ → Bool
-commandHigh Packet command = highWord command
-commandHigh Datagram command = highWord command
-commandHigh Telegram command = ltb 0x7F command
-commandHigh Unknown command = false
+abbrev pub highCommand : Kind → ℕ → Bool
+highCommand Packet command = highWord command
+highCommand Datagram command = highWord command
+highCommand Telegram command = ltb 0x7F command
+highCommand Unknown command = false
 
 -- 4: the payload's length n doesn't fit: F is above 127, or n is not the length of F frames
-abbrev pub lengthWrong : Kind → ℕ → ℕ → Bool
-lengthWrong K command n = ltb 127 (framesOf K command n) || not (eqb n (payloadLength K (framesOf K command n)))
+abbrev pub wrongLength : Kind → ℕ → ℕ → Bool
+wrongLength K command n = ltb 127 (framesOf K command n) || not (eqb n (payloadLength K (framesOf K command n)))
 
 -- the table's lines 1 to 4, of a record that is taken as one of a kind
 abbrev pub linesAs : Kind → Record → List (Bool × ℕ)
 linesAs K r =
     (isUnknown K, 1)
     ∷ (highWord (r .header .destination) || highWord (r .header .source), 2)
-    ∷ (commandHigh K (r .header .command), 3)
-    ∷ (lengthWrong K (r .header .command) (length (r .payload)), 4)
+    ∷ (highCommand K (r .header .command), 3)
+    ∷ (wrongLength K (r .header .command) (length (r .payload)), 4)
     ∷ []
 
 -- the first of the lines 1 to 4 that applies, or 0: what the wire can't carry
@@ -86,7 +64,7 @@ unfoldable pub refusal : Record → ℕ → ℕ
 refusal r room = first (linesAs (kindOf (r .header .version)) r ++ (tooShort room (streamOf r) ∷ []))
 
 -- what is answered for an output of the given room
-abbrev pub encodingOf : Record → ℕ → Answer
+abbrev pub encodingOf : Record → ℕ → Written
 encodingOf r room = answered (refusal r room) (streamOf r)
 
 -- the output afterwards

@@ -1,13 +1,15 @@
 // What fits a record of a kind: the tests of the refusals 1 to 4, and the length of its stream.
 ghost use mathlib.Core.Path.{_≡_};
 ghost use Prim.Native.Nat.{_+_, _*_, _≤_};
+ghost use Rattle.basics.specs.Choice.{first};
 ghost use Rattle.basics.specs.Words.{highWord};
-ghost use Rattle.stream.specs.Layout.{headerLength, frameWidth, payloadLength};
+ghost use Rattle.stream.specs.Layout.{headerLength, frameWidth};
 ghost use Rattle.record.specs.Record.{framesOf};
-ghost use Rattle.record.specs.Encode.{isUnknown, commandHigh, lengthWrong};
+ghost use Rattle.record.specs.Encode.{isUnknown, highCommand, wrongLength, linesAs};
+use crate::Header;
 use stream::Kind;
 
-pub fn is_unknown(kind: Kind) -> bool
+fn is_unknown(kind: Kind) -> bool
     ensures { λ r. ⌜ r ≡ isUnknown kind ⌝ }
 {
     match kind {
@@ -19,7 +21,7 @@ pub fn is_unknown(kind: Kind) -> bool
 }
 
 // Bit 7 or 15 is set.
-pub fn high_word(word: u16) -> bool
+fn high_word(word: u16) -> bool
     ensures { λ r. ⌜ r ≡ highWord word ⌝ }
 {
     if word / 128 % 2 == 1 {
@@ -29,8 +31,8 @@ pub fn high_word(word: u16) -> bool
     }
 }
 
-pub fn high_command(kind: Kind, command: u16) -> bool
-    ensures { λ r. ⌜ r ≡ commandHigh kind command ⌝ }
+fn high_command(kind: Kind, command: u16) -> bool
+    ensures { λ r. ⌜ r ≡ highCommand kind command ⌝ }
 {
     match kind {
         Kind::Packet => high_word(command),
@@ -47,32 +49,41 @@ pub fn frame_count(kind: Kind, command: u16, count: usize) -> usize
     match kind {
         Kind::Packet => count / 4,
         Kind::Datagram => 0,
-        Kind::Telegram => command as usize / 32 % 4,
+        Kind::Telegram => stream::telegram_frames(command),
         Kind::Unknown => 0,
     }
 }
 
-// The length of the payload of so many frames.
-fn payload_length(kind: Kind, frames: usize) -> usize
-    requires { ⌜ frames ≤ 127 ⌝ }
-    ensures { λ r. ⌜ r ≡ payloadLength kind frames ⌝ }
-{
-    match kind {
-        Kind::Packet => 4 * frames,
-        Kind::Datagram => 6,
-        Kind::Telegram => 7 * frames,
-        Kind::Unknown => 0,
-    }
-}
-
-pub fn wrong_length(kind: Kind, command: u16, count: usize) -> bool
-    ensures { λ r. ⌜ r ≡ lengthWrong kind command count ⌝ }
+fn wrong_length(kind: Kind, command: u16, count: usize) -> bool
+    ensures { λ r. ⌜ r ≡ wrongLength kind command count ⌝ }
 {
     let frames = frame_count(kind, command, count);
     if frames > 127 {
         return true;
     }
-    count != payload_length(kind, frames)
+    count != stream::payload_length(kind, frames as u8)
+}
+
+// The number of the first of the lines 1 to 4 that applies to a record, or 0.
+pub fn unwritable(kind: Kind, header: Header, payload: &[u8]) -> u32
+    ensures { λ r. ⌜ r ≡ first (linesAs kind (record { header = header; payload = now (payload .entry) })) ⌝ }
+{
+    if is_unknown(kind) {
+        return 1;
+    }
+    if high_word(header.destination) {
+        return 2;
+    }
+    if high_word(header.source) {
+        return 2;
+    }
+    if high_command(kind, header.command) {
+        return 3;
+    }
+    if wrong_length(kind, header.command, payload.len()) {
+        return 4;
+    }
+    0
 }
 
 // The length of the stream of so many frames.

@@ -116,7 +116,7 @@ fn telegram(header: Header, payload: &[u8], out: &mut [u8])
     ensures { λ r. ⌜ now (out .exit) ≡ over (streamAs Telegram (record { header = header; payload = now (payload .entry) })) (now (out .entry)) ⌝ }
 {
     let command = header.command;
-    let count = command as usize / 32 % 4;
+    let count = stream::telegram_frames(command);
     address(header, out);
     byte(command as u8, &mut out[6..]);
     sum(&mut out[1..], 6);

@@ -1,7 +1,7 @@
 -- `fits::high_command` meets its contract. Assumes nothing.
 use mathlib.Core.Path.{ap, _∙_, sym}
 use Rattle.stream.specs.declared.Kind.{Kind}
-use Rattle.record.specs.Encode.{commandHigh}
+use Rattle.record.specs.Encode.{highCommand}
 use borrow.Author.Needs.{needs}
 use Rattle.record.proofs.fits.high_command.Statement.{statement}
 use Rattle.record.proofs.fits.high_command.Tie as tie
@@ -25,13 +25,13 @@ enum-told-4 : tie.Need-enum-told-4
 enum-told-4 c = search needs
 
 returns : tie.Need-returns
-returns c = c .high-word .ensures ∙ sym (ap (λ (K : Kind). commandHigh K (c .before .before .before .args .command)) (c .before .enum-told .given .1))
+returns c = c .high-word .ensures ∙ sym (ap (λ (K : Kind). highCommand K (c .before .before .before .args .command)) (c .before .enum-told .given .1))
 
 returns-2 : tie.Need-returns-2
-returns-2 c = c .high-word2 .ensures ∙ sym (ap (λ (K : Kind). commandHigh K (c .before .before .before .args .command)) (c .before .enum-told2 .given .1))
+returns-2 c = c .high-word2 .ensures ∙ sym (ap (λ (K : Kind). highCommand K (c .before .before .before .args .command)) (c .before .enum-told2 .given .1))
 
 returns-3 : tie.Need-returns-3
-returns-3 c = sym (ap (λ (K : Kind). commandHigh K (c .before .before .args .command)) (c .enum-told3 .given .1))
+returns-3 c = sym (ap (λ (K : Kind). highCommand K (c .before .before .args .command)) (c .enum-told3 .given .1))
 
 returns-4 : tie.Need-returns-4
 returns-4 c = search needs

@@ -10,6 +10,9 @@ frame-count-requires c κs = search needs
 returns : tie.Need-returns
 returns c = rw (← c .before .frame-count .ensures, lt-ltb _ _ (c .if1 .taken))
 
+cast-payload-length : tie.Need-cast-payload-length
+cast-payload-length c = search needs
+
 payload-length-requires : tie.Need-payload-length-requires
 payload-length-requires c κs = search needs
 
@@ -18,4 +21,4 @@ returns-2 c = rw (← c .before .before .frame-count .ensures, le-ltb _ _ (c .be
 
 pub wrong-length-spec : {M : Type 1} → statement M
 wrong-length-spec =
-    tie.close (tie.spec frame-count-requires returns payload-length-requires returns-2)
+    tie.close (tie.spec frame-count-requires returns cast-payload-length payload-length-requires returns-2)

@@ -11,7 +11,7 @@ use Rattle.basics.proofs.Over.{lent}
 use Rattle.stream.specs.declared.Kind.the-variants.{Datagram}
 use Rattle.stream.specs.Layout.{headerLength, frameWidth, payloadLength}
 use Rattle.record.specs.Record.{addressBytes, withChecksum, withSeptet, framed, kindBytes, framesOf, streamAs}
-use Rattle.record.proofs.Writing.{summed-behind, length-withSeptet}
+use Rattle.record.proofs.StreamParts.{summed-behind, length-withSeptet}
 use Rattle.record.proofs.Lengths.{right-length}
 use borrow.Author.Needs.{needs}
 use Rattle.record.proofs.write.datagram.Statement.{statement}

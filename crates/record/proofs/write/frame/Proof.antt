@@ -2,7 +2,7 @@
 use Prim.Native.Nat.{_+_}
 use lib.ListN.{length}
 use Rattle.record.specs.Record.{withSeptet}
-use Rattle.record.proofs.Writing.{length-withSeptet, summed}
+use Rattle.record.proofs.StreamParts.{length-withSeptet, summed}
 use borrow.Author.Needs.{needs}
 use Rattle.record.proofs.write.frame.Statement.{statement}
 use Rattle.record.proofs.write.frame.Tie as tie

@@ -9,7 +9,7 @@ use lib.Seq.{drop-drop, length-take-le}
 use Rattle.basics.specs.Bytes.{over}
 use Rattle.basics.proofs.Over.{lent}
 use Rattle.record.specs.Record.{withChecksum, withSeptet, framed}
-use Rattle.record.proofs.Writing.{fewer, framed-step, length-frame}
+use Rattle.record.proofs.StreamParts.{fewer, framed-step, length-frame}
 use Rattle.record.proofs.write.frames.Statement.{statement}
 use Rattle.record.proofs.write.frames.Tie as tie
 

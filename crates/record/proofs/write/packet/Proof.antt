@@ -9,7 +9,7 @@ use Rattle.basics.proofs.Over.{lent}
 use Rattle.stream.specs.declared.Kind.the-variants.{Packet}
 use Rattle.stream.specs.Layout.{headerLength, frameWidth}
 use Rattle.record.specs.Record.{addressBytes, withChecksum, framed, kindBytes, framesOf, streamAs}
-use Rattle.record.proofs.Writing.{summed-behind}
+use Rattle.record.proofs.StreamParts.{summed-behind}
 use Rattle.record.proofs.Lengths.{few-frames}
 use borrow.Author.Needs.{needs}
 use Rattle.record.proofs.write.packet.Statement.{statement}

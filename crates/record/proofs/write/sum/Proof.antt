@@ -2,7 +2,7 @@
 use mathlib.Core.Path.{sym}
 use native.Mathlib.Omega.{arith}
 use lib.Seq.{length-take-le}
-use Rattle.record.proofs.Writing.{sum-set}
+use Rattle.record.proofs.StreamParts.{sum-set}
 use borrow.Author.Needs.{needs}
 use Rattle.record.proofs.write.sum.Statement.{statement}
 use Rattle.record.proofs.write.sum.Tie as tie

@@ -1,7 +1,6 @@
 -- `write::telegram` meets its contract: each part that is lent stands behind what is written. Assumes nothing.
-use mathlib.Core.Path.{refl}
 use mathlib.Core.List.{[], _∷_, _++_}
-use mathlib.Core.Path.{_≡_}
+use mathlib.Core.Path.{_≡_, refl, _∙_}
 use lib.ListN.{length}
 use Prim.Native.Nat.{_*_}
 use native.Mathlib.Omega.{arith}
@@ -9,7 +8,7 @@ use Rattle.basics.proofs.Over.{lent}
 use Rattle.stream.specs.declared.Kind.the-variants.{Telegram}
 use Rattle.stream.specs.Layout.{headerLength, frameWidth, payloadLength, telegramFrames}
 use Rattle.record.specs.Record.{addressBytes, withChecksum, framed, kindBytes, framesOf, streamAs}
-use Rattle.record.proofs.Writing.{summed-behind}
+use Rattle.record.proofs.StreamParts.{summed-behind}
 use Rattle.record.proofs.Lengths.{right-length}
 use borrow.Author.Needs.{needs}
 use Rattle.record.proofs.write.telegram.Statement.{statement}
@@ -19,8 +18,8 @@ seven : (s : tie.Start) → length (s .args .payload .now) ≡ 7 * telegramFrame
 unfolding payloadLength framesOf
 seven s = right-length Telegram (s .args .header .command) (length (s .args .payload .now)) (s .pre .sized)
 
-cast-count : tie.Need-cast-count
-cast-count c = search needs
+telegram-frames-requires : tie.Need-telegram-frames-requires
+telegram-frames-requires c κs = search needs
 
 address-requires : tie.Need-address-requires
 unfolding headerLength frameWidth framesOf
@@ -72,7 +71,8 @@ part-frames-end c = search needs
 
 frames-requires : tie.Need-frames-requires
 unfolding headerLength frameWidth framesOf
-frames-requires c κs = omega (arith, seven (c .before .before .before .before .before .before .before .before .before .before .before .before .before .before .before))
+frames-requires c κs = let count = c .before .before .before .before .before .before .before .before .before .before .before .before .before in
+    rw (count .telegram-frames .ensures) (omega (arith, seven (count .before .before .before)))
 
 same-length : tie.Need-same-length
 same-length c = search needs
@@ -84,7 +84,8 @@ returns c =
     let sum = frames .before .before .before .before in
     let command = sum .before .before .before .before in
     let address = command .before .before .before .before in
-    let args = address .before .before .before .before .args in
+    let count = address .before .before in
+    let args = count .before .before .before .args in
     let h = args .header in
     let payload = args .payload .now in
     let out = args .out .now in
@@ -93,13 +94,13 @@ returns c =
     (summed-behind 0xAA body out _ _ 6 refl
     (lent (0xAA ∷ addressBytes h) (h .command ∷ []) out _ _ 6 refl (address .address .ensures) (command .byte .ensures))
     (sum .sum .ensures))
-    (frames .frames .ensures)
+    (frames .frames .ensures ∙ rw (count .telegram-frames .ensures))
 
 pub telegram-spec : {M : Type 1} → statement M
 telegram-spec =
     tie.close
     (tie.spec
-    cast-count
+    telegram-frames-requires
     address-requires
     cast-byte
     sub-byte

@@ -125,7 +125,7 @@ pub record Parts (s : List ℕ) : Type 0 where
   pub held : lengthAs (kind s) s ≤ length s
   pub sized : validationOf s .offset ≡ lengthAs (kind s) s
 
-module _ (s : List ℕ) (w : validationOf s .number ≡ 0) where
+module _ (s : List ℕ) (w : validationOf s .verdict ≡ 0) where
   pub whole-parts : Parts s
   whole-parts =
       let c = whole-clean s w in
@@ -242,7 +242,7 @@ stream-again K s whole held =
     ap₂ _++_ (header-again K s whole held) (frames-again K s whole held) ∙ sym (take-add (headerLength K) ((frameWidth K + 2) * frameCount K s) s)
 
 -- a whole stream is written again as it stood
-pub whole-again : (s : List ℕ) → validationOf s .number ≡ 0 → streamOf (recordOf s) ≡ take (validationOf s .offset) s
+pub whole-again : (s : List ℕ) → validationOf s .verdict ≡ 0 → streamOf (recordOf s) ≡ take (validationOf s .offset) s
 unfolding recordOf streamOf
 whole-again s w =
     let parts = whole-parts s w in
