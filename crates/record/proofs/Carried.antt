@@ -17,7 +17,7 @@ use Rattle.basics.proofs.Table.{Numbered, first-next, first-none, line-passed}
 use Rattle.stream.specs.Layout.{kindOf, headerLength, frameWidth, payloadLength}
 use Rattle.stream.specs.declared.Kind.{Kind}
 use Rattle.stream.specs.declared.Kind.the-variants.{Packet, Datagram, Telegram, Unknown}
-use Rattle.record.specs.Record.{Record, framesIn, streamAs, streamOf}
+use Rattle.record.specs.Record.{Record, framesOf, framesIn, streamAs, streamOf}
 use Rattle.record.specs.Encode.{isUnknown, highCommand, wrongLength, linesAs, unwritable, refusal, InRange, Writable}
 use Rattle.record.proofs.Lengths.{few-frames, right-length, length-stream}
 
@@ -122,6 +122,17 @@ writable-carried r w = carried-of (kindIn r) r (w .range) (w .carried)
 pub carried-writable : (r : Record) → InRange r → Carried (kindIn r) r → Writable r
 unfolding unwritable
 carried-writable r range carried = record { range = range; carried = lines-of (kindIn r) r carried }
+
+carried-most : (K : Kind) (r : Record) → Carried K r → length (r .payload) ≤ 508
+unfolding payloadLength framesOf
+carried-most Packet r carried = omega (arith, carried .sized, carried .few)
+carried-most Datagram r carried = omega (arith, carried .sized)
+carried-most Telegram r carried = omega (arith, carried .sized)
+carried-most Unknown r carried = omega (arith, carried .sized)
+
+-- no record that the wire can carry has more than 508 bytes of payload
+pub payload-most : (r : Record) → Writable r → length (r .payload) ≤ 508
+payload-most r w = carried-most (kindIn r) r (writable-carried r w)
 
 -- ── the refusal, by the record and by the room
 

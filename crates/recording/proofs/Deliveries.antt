@@ -19,11 +19,11 @@ use Rattle.stream.specs.declared.Kind.{Kind}
 use Rattle.stream.specs.declared.Kind.the-variants.{Packet, Datagram, Telegram, Unknown}
 use Rattle.stream.proofs.Whole.{WholeAs}
 use Rattle.record.specs.Record.{Record, recordOf}
-use Rattle.record.proofs.Written.{whole-parts}
+use Rattle.record.proofs.WholeAgain.{whole-parts}
 use Rattle.recording.specs.Recording.{Delivery, deliveryAt, deliveriesFrom, deliveriesAfter, contentsOf, records}
 
 abbrev pub Whole : List ℕ → Type 0
-Whole s = validationOf s .number ≡ 0
+Whole s = validationOf s .verdict ≡ 0
 
 -- ── a whole stream begins with the sync byte, and no other of its bytes is one
 
@@ -132,7 +132,7 @@ first-within : (fuel : ℕ) (s : List ℕ) (start : ℕ) → length s ≤ start 
 first-within zero s start past = rw (after-end s start (omega arith)) (none (λ k a b w. omega arith))
 first-within (suc fuel) s start past =
     dite (decLt start (length s))
-    (λ inside. dite (ℕ-discrete (validationOf (drop start s) .number) 0)
+    (λ inside. dite (ℕ-discrete (validationOf (drop start s) .verdict) 0)
     (λ w. rw (after-here s start w) (some start (omega arith) inside w (λ k a b x. omega arith)))
     (λ no. rw (after-on s start inside no) (earlier s start _ no (first-within fuel s (start + 1) (omega arith)))))
     (λ outside. rw (after-end s start (omega arith)) (none (λ k a b w. omega arith)))
@@ -166,7 +166,7 @@ pub contents-moved : (p q : ℕ) (s : List ℕ) → contentsOf (deliveriesFrom p
 unfolding deliveriesFrom
 contents-moved p q [] = refl
 contents-moved p q (byte ∷ rest) =
-    dite (ℕ-discrete (validationOf (byte ∷ rest) .number) 0)
+    dite (ℕ-discrete (validationOf (byte ∷ rest) .verdict) 0)
     (λ w. rw (here p byte rest w, here q byte rest w) (ap {B = List Record} (λ l. recordOf (byte ∷ rest) ∷ l) (contents-moved (suc p) (suc q) rest)))
     (λ no. rw (on p byte rest no, on q byte rest no) (contents-moved (suc p) (suc q) rest))
 

@@ -7,11 +7,12 @@ use mathlib.Core.Logic.{_↔_}
 use mathlib.Core.List.{List, [], _∷_, _++_}
 use lib.ListN.{length, drop, length-append, length-drop}
 use lib.Seq.{drop-at}
-use Rattle.stream.specs.Validation.{Answer, validationOf}
+use Rattle.stream.specs.Validation.{validationOf}
+use Rattle.stream.specs.declared.Validation.{Validation}
 use Rattle.record.specs.Encode.{Writable}
 use Rattle.record.specs.Record.{Record, recordOf, streamOf}
 use Rattle.record.proofs.ReadBack.{read-back}
-use Rattle.record.proofs.Written.{whole-writable, whole-length}
+use Rattle.record.proofs.WholeAgain.{whole-writable, whole-length}
 use Rattle.recording.specs.Normalize.{streams, normalized}
 use Rattle.recording.specs.Recording.{deliveriesFrom, deliveriesAfter, contentsOf, records}
 use Rattle.recording.proofs.Deliveries.{Whole, whole-long, first-whole, after-ind, contents-moved}
@@ -21,8 +22,8 @@ records-stream : (r : Record) → Writable r → (t : List ℕ) → records (str
 records-stream r w t =
     let s = streamOf r ++ t in
     let (verdict, read) = read-back r w t in
-    let whole : Whole s = ap (λ (v : Answer). v .number) verdict in
-    let size : validationOf s .offset ≡ length (streamOf r) = ap (λ (v : Answer). v .offset) verdict in
+    let whole : Whole s = ap (λ (v : Validation). v .verdict) verdict in
+    let size : validationOf s .offset ≡ length (streamOf r) = ap (λ (v : Validation). v .offset) verdict in
     let rest : drop (validationOf s .offset) s ≡ t = drop-at (streamOf r) t (validationOf s .offset) (sym size) in
     ap contentsOf (first-whole 0 s whole)
     ∙ rw read (ap {B = List Record} (λ l. r ∷ l) (contents-moved (0 + validationOf s .offset) 0 (drop (validationOf s .offset) s) ∙ ap records rest))

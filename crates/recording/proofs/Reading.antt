@@ -6,9 +6,6 @@ use mathlib.Core.Path.{_≡_, refl, ap, sym, _∙_, subst, subst⁻¹}
 use mathlib.Core.List.{List, _++_}
 use lib.ListN.{length, take, drop, getD, length-drop}
 use Rattle.basics.proofs.Over.{part}
-use borrow.Author.Tests.{lt-ltb, le-ltb}
-use Rattle.basics.specs.Bytes.{over}
-use Rattle.basics.specs.Choice.{choose}
 use Rattle.stream.specs.Layout.{kind, headerLength, frameWidth, frameCount, lengthAs, payloadLength}
 use Rattle.stream.specs.declared.Kind.{Kind}
 use Rattle.stream.specs.Validation.{validationOf}
@@ -18,9 +15,9 @@ use mathlib.Core.Logic.{dite}
 use lib.Seq.{getD-drop}
 use Rattle.septet.specs.Septet.{withTopBits}
 use Rattle.record.specs.Record.{unframed, recordOf, payloadIn}
-use Rattle.record.proofs.Written.{whole-parts, few-as, payload-sized}
+use Rattle.record.proofs.WholeAgain.{whole-parts, few-as, payload-sized}
 use Rattle.recording.specs.Recording.{deliveriesAfter}
-use Rattle.recording.specs.Stage.{NextSync, PayloadHeld, outputOf}
+use Rattle.recording.specs.Stage.{NextSync, PayloadHeld}
 use Rattle.recording.proofs.Deliveries.{Whole, whole-sync, after-skip}
 
 -- one frame fewer
@@ -79,14 +76,3 @@ module _ (s : List ℕ) (w : Whole s) (K : Kind) (e : K ≡ kind s) where
   pub whole-payload : payloadIn K s ≡ recordOf s .payload
   unfolding recordOf
   whole-payload = rw e refl
-
--- ── an output with room, and without
-
-module _ (payload out : List ℕ) where
-  pub output-short : length out < length payload → outputOf payload out ≡ out
-  unfolding choose
-  output-short short = rw (lt-ltb (length out) (length payload) short)
-
-  pub output-fits : length payload ≤ length out → outputOf payload out ≡ over payload out
-  unfolding choose
-  output-fits fits = rw (le-ltb (length out) (length payload) fits)

@@ -8,7 +8,7 @@ use lib.Seq.{take-length}
 use Rattle.basics.specs.Bytes.{over}
 use Rattle.stream.specs.Validation.{validationOf}
 use Rattle.record.specs.Record.{recordOf, streamOf}
-use Rattle.record.proofs.Written.{whole-again, whole-length}
+use Rattle.record.proofs.WholeAgain.{whole-again, whole-length}
 use Rattle.recording.specs.Normalize.{streams, normalized}
 use Rattle.recording.specs.Recording.{Delivery, deliveriesAfter, contentsOf}
 use Rattle.recording.specs.declared.search.Span.{Span}

@@ -9,17 +9,18 @@ use borrow.Author.Tests.{lt-ltb, le-ltb}
 use lib.ListN.{length, drop, length-drop}
 use Rattle.basics.specs.Bytes.{over}
 use Rattle.basics.specs.Choice.{choose}
+use Rattle.basics.specs.Output.{outputFor}
+use Rattle.basics.proofs.Output as room
 use Rattle.stream.specs.Validation.{validationOf}
 use Rattle.record.specs.Record.{recordOf}
-use Rattle.recording.specs.Next.{without, firstOf, payloadOf, refusal, nextOf, outputAfter}
+use Rattle.recording.specs.Next.{without, firstOf, payloadOf, refusal, nextOf, payloadAfter}
 use Rattle.recording.specs.Recording.{Delivery, deliveryAt, deliveriesAfter}
-use Rattle.recording.specs.Stage.{searched, WholeAt, outputOf, deliveredOf}
+use Rattle.recording.specs.Stage.{searched, WholeAt, deliveredOf}
 use Rattle.recording.specs.declared.search.Search.{Search}
 use Rattle.recording.specs.declared.search.Search.the-variants.{At, Nothing}
 use Rattle.recording.specs.declared.search.Span.{Span}
 use Rattle.recording.proofs.Deliveries.{whole-long, FirstAfter, none, some, first-after}
 use Rattle.recording.proofs.Nexts.{refusal-none, refusal-short, next-answers, next-refuses, output-kept, output-written}
-use Rattle.recording.proofs.Reading.{output-short, output-fits}
 
 -- the stream that was found, and what follows it
 pub record FoundAt (s : List ℕ) (start : ℕ) (span : Span) : Type 0 where
@@ -88,11 +89,11 @@ module _ (s : List ℕ) (start : ℕ) (span : Span) (found : FoundAt s start spa
       delivered-fits s (span .place) room (omega arith)
       ∙ sym (next-answers s start room (fits room (omega arith)) ∙ ap firstOf (found .deliveries)))
 
-  pub output-found : (out : List ℕ) → outputOf (recordOf (drop (span .place) s) .payload) out ≡ outputAfter s start out
+  pub output-found : (out : List ℕ) → outputFor (recordOf (drop (span .place) s) .payload) out ≡ payloadAfter s start out
   unfolding payload
   output-found out =
       dite (decLt (length out) (length payload))
-      (λ less. output-short payload out less ∙ sym (output-kept s start out (omega (arith, short (length out) less))))
+      (λ less. room.output-kept payload out less ∙ sym (output-kept s start out (omega (arith, short (length out) less))))
       (λ enough.
-      output-fits payload out (omega arith)
+      room.output-written payload out (omega arith)
       ∙ sym (output-written s start out (fits (length out) (omega arith)) ∙ ap (λ (l : List ℕ). over l out) is))

@@ -6,29 +6,11 @@ use lib.Dec.{ltb, eqb}
 use lib.ListN.{length}
 use Rattle.basics.specs.Choice.{choose, first}
 use Rattle.basics.specs.Output.{tooShort, outputWith}
-use Rattle.record.specs.declared.Header.{Header}
 use Rattle.recording.specs.Recording.{Delivery, deliveriesAfter}
-use Rattle.recording.specs.declared.NextRecord.{NextRecord}
-use Rattle.recording.specs.declared.NextRecord.the-variants.{Found, Nothing, StartPastEnd, OutputTooShort}
+use Rattle.recording.specs.declared.Found.{Found}
 
--- the paper's number of each answer
-abbrev pub number : NextRecord → ℕ
-number (Found d) = 0
-number Nothing = 0
-number StartPastEnd = 6
-number OutputTooShort = 5
-
--- an answer in the paper's terms: its number, whether there is a record, the place and length of its stream, its header and the
--- length of its payload; all zero where there is none
-pub record Answer : Type 0 where
-  pub number : ℕ
-  pub found : Bool
-  pub place : ℕ
-  pub length : ℕ
-  pub header : Header
-  pub payload : ℕ
-
-abbrev pub without : ℕ → Answer
+-- no record: all is zero but the number
+abbrev pub without : ℕ → Found
 without n =
     record {
       number = n;
@@ -36,21 +18,14 @@ without n =
       place = 0;
       length = 0;
       header = record { version = 0; destination = 0; source = 0; command = 0 };
-      payload = 0;
+      «payload_length» = 0;
     }
 
-abbrev pub answerOf : NextRecord → Answer
-answerOf (Found d) =
-    record { number = number (Found d); found = true; place = d .place; length = d .length; header = d .header; payload = d .«payload_length» }
-answerOf Nothing = without (number Nothing)
-answerOf StartPastEnd = without (number StartPastEnd)
-answerOf OutputTooShort = without (number OutputTooShort)
-
 -- of the deliveries at or after the starting place, the first; or "none"
-abbrev pub firstOf : List Delivery → Answer
+abbrev pub firstOf : List Delivery → Found
 firstOf [] = without 0
 firstOf (d ∷ rest) =
-    record { number = 0; found = true; place = d .place; length = d .length; header = d .contents .header; payload = length (d .contents .payload) }
+    record { number = 0; found = true; place = d .place; length = d .length; header = d .contents .header; «payload_length» = length (d .contents .payload) }
 
 abbrev pub payloadOf : List Delivery → List ℕ
 payloadOf [] = []
@@ -62,10 +37,10 @@ refusal s start room =
     first ((ltb (length s) start, 6) ∷ tooShort room (payloadOf (deliveriesAfter s start)) ∷ [])
 
 -- what is answered, from a starting place on, for an output of the given room
-abbrev pub nextOf : List ℕ → ℕ → ℕ → Answer
+abbrev pub nextOf : List ℕ → ℕ → ℕ → Found
 nextOf s start room =
     choose (eqb (refusal s start room) 0) (firstOf (deliveriesAfter s start)) (without (refusal s start room))
 
 -- the output afterwards
-abbrev pub outputAfter : List ℕ → ℕ → List ℕ → List ℕ
-outputAfter s start out = outputWith (refusal s start (length out)) (payloadOf (deliveriesAfter s start)) out
+abbrev pub payloadAfter : List ℕ → ℕ → List ℕ → List ℕ
+payloadAfter s start out = outputWith (refusal s start (length out)) (payloadOf (deliveriesAfter s start)) out

@@ -2,11 +2,10 @@
 use Prim.Native.Nat.{ℕ}
 use mathlib.Core.List.{List, [], _∷_, _++_}
 use lib.ListN.{length}
-use Rattle.basics.specs.Output.{Answer, answeredFor, outputFor}
+use Rattle.basics.specs.Output.{answeredFor, outputFor}
+use Rattle.basics.specs.declared.Written.{Written}
 use Rattle.record.specs.Record.{Record, streamOf}
 use Rattle.recording.specs.Recording.{records}
-use Rattle.recording.specs.declared.Normalized.{Normalized}
-use Rattle.recording.specs.declared.Normalized.the-variants.{Written, OutputTooShort}
 
 -- for each record exactly the stream that writing gives for it, with nothing between
 unfoldable pub streams : List Record → List ℕ
@@ -17,20 +16,8 @@ streams (r ∷ rest) = streamOf r ++ streams rest
 abbrev pub normalized : List ℕ → List ℕ
 normalized s = streams (records s)
 
--- the paper's number of each answer
-abbrev pub number : Normalized → ℕ
-number (Written n) = 0
-number OutputTooShort = 5
-
-abbrev pub lengthIn : Normalized → ℕ
-lengthIn (Written n) = n
-lengthIn OutputTooShort = 0
-
-abbrev pub answerOf : Normalized → Answer
-answerOf e = record { number = number e; length = lengthIn e }
-
 -- what is answered for an output of the given room; 5: it is shorter than the normalized recording
-abbrev pub normalizingOf : List ℕ → ℕ → Answer
+abbrev pub normalizingOf : List ℕ → ℕ → Written
 normalizingOf s room = answeredFor (normalized s) room
 
 -- the output afterwards

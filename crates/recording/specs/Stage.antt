@@ -4,14 +4,14 @@ use mathlib.Core.Path.{_≡_}
 use mathlib.Core.List.{List, [], _∷_}
 use lib.Dec.{ltb}
 use lib.ListN.{length, getD, drop}
-use Rattle.basics.specs.Bytes.{over}
 use Rattle.basics.specs.Choice.{choose}
 use Rattle.stream.specs.Layout.{lengthAs, frameCount, payloadLength}
 use Rattle.stream.specs.Validation.{validationOf}
 use Rattle.stream.specs.declared.Kind.{Kind}
 use Rattle.record.specs.Record.{recordOf}
 use Rattle.recording.specs.Recording.{Delivery, deliveryAt}
-use Rattle.recording.specs.Next.{Answer, without, firstOf}
+use Rattle.recording.specs.Next.{without, firstOf}
+use Rattle.recording.specs.declared.Found.{Found}
 use Rattle.recording.specs.declared.search.Span.{Span}
 use Rattle.recording.specs.declared.search.Search.{Search}
 use Rattle.recording.specs.declared.search.Search.the-variants.{At, Nothing}
@@ -30,7 +30,7 @@ searched (d ∷ rest) = At (record { place = d .place; length = d .length })
 -- a whole stream stands at the place, and is as long as it is said to be
 pub record WholeAt (s : List ℕ) (span : Span) : Type 0 where
   pub within : span .place ≤ length s
-  pub whole : validationOf (drop (span .place) s) .number ≡ 0
+  pub whole : validationOf (drop (span .place) s) .verdict ≡ 0
   pub sized : span .length ≡ validationOf (drop (span .place) s) .offset
 
 -- the stream of a kind is there, with its frames, and the output has room for its payload
@@ -40,11 +40,7 @@ pub record PayloadHeld (K : Kind) (s : List ℕ) (count room : ℕ) : Type 0 whe
   pub few : count < 256
   pub fits : payloadLength K count ≤ room
 
--- a payload over the output's start, or the output as it was where it has no room
-abbrev pub outputOf : List ℕ → List ℕ → List ℕ
-outputOf payload out = choose (ltb (length out) (length payload)) out (over payload out)
-
 -- the answer for a whole stream at a place, by the output's room
-abbrev pub deliveredOf : List ℕ → ℕ → ℕ → Answer
+abbrev pub deliveredOf : List ℕ → ℕ → ℕ → Found
 deliveredOf s place room =
     choose (ltb room (length (recordOf (drop place s) .payload))) (without 5) (firstOf (deliveryAt place (drop place s) ∷ []))

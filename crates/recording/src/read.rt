@@ -3,12 +3,13 @@ ghost use mathlib.Core.Path.{_≡_};
 ghost use Prim.Native.Nat.{_+_, _*_, _≤_, _<_};
 ghost use lib.ListN.{length, getD, take};
 ghost use Rattle.basics.specs.Bytes.{over};
+ghost use Rattle.basics.specs.Output.{outputFor};
 ghost use Rattle.basics.specs.Words.{wordAt};
 ghost use Rattle.septet.specs.Septet.{withTopBits};
-ghost use Rattle.stream.specs.Layout.{lengthAs, frameCount, payloadLength};
+ghost use Rattle.stream.specs.Layout.{lengthAs, frameCount};
 ghost use Rattle.stream.specs.Validation.{validationOf};
 ghost use Rattle.record.specs.Record.{recordOf, commandIn, payloadIn, unframed};
-ghost use Rattle.recording.specs.Stage.{PayloadHeld, outputOf};
+ghost use Rattle.recording.specs.Stage.{PayloadHeld};
 use record::Header;
 use stream::Kind;
 
@@ -46,26 +47,14 @@ pub fn header(stream: &[u8]) -> Header
 }
 
 // The frame count F, as the header announces it.
-fn frame_count(kind: Kind, stream: &[u8]) -> usize
+fn frame_count(kind: Kind, stream: &[u8]) -> u8
     requires { ⌜ lengthAs kind (now stream) ≤ length (now stream) ⌝ }
     ensures { λ r. ⌜ r ≡ frameCount kind (now (stream .entry)) ⌝ }
 {
     match kind {
-        Kind::Packet => stream[8] as usize,
+        Kind::Packet => stream[8],
         Kind::Datagram => 0,
-        Kind::Telegram => stream[6] as usize / 32 % 4,
-        Kind::Unknown => 0,
-    }
-}
-
-fn payload_length(kind: Kind, frames: usize) -> usize
-    requires { ⌜ frames < 256 ⌝ }
-    ensures { λ r. ⌜ r ≡ payloadLength kind frames ⌝ }
-{
-    match kind {
-        Kind::Packet => 4 * frames,
-        Kind::Datagram => 6,
-        Kind::Telegram => 7 * frames,
+        Kind::Telegram => stream::telegram_frames(stream[6] as u16) as u8,
         Kind::Unknown => 0,
     }
 }
@@ -123,16 +112,16 @@ fn payload_as(kind: Kind, count: usize, stream: &[u8], out: &mut [u8])
 
 // Writes the payload of a whole stream to the start of `out` if there is room for it, and returns its length.
 pub fn payload(stream: &[u8], out: &mut [u8]) -> usize
-    requires { ⌜ validationOf (now stream) .number ≡ 0 ⌝ }
+    requires { ⌜ validationOf (now stream) .verdict ≡ 0 ⌝ }
     ensures { λ r. ⌜ r ≡ length (recordOf (now (stream .entry)) .payload) ⌝ }
-    ensures { λ r. ⌜ now (out .exit) ≡ outputOf (recordOf (now (stream .entry)) .payload) (now (out .entry)) ⌝ }
+    ensures { λ r. ⌜ now (out .exit) ≡ outputFor (recordOf (now (stream .entry)) .payload) (now (out .entry)) ⌝ }
 {
     let kind = stream::kind_of(stream[5]);
     let count = frame_count(kind, stream);
-    let size = payload_length(kind, count);
+    let size = stream::payload_length(kind, count);
     if out.len() < size {
         return size;
     }
-    payload_as(kind, count, stream, out);
+    payload_as(kind, count as usize, stream, out);
     size
 }

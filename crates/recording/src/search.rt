@@ -39,14 +39,12 @@ pub fn first_whole(input: &[u8], start: usize) -> Search
             break Search::Nothing;
         }
         let validation = stream::validate(&input[at..]);
-        let verdict = validation.verdict;
-        let offset = validation.offset;
-        if verdict.number() == 0 {
+        if validation.verdict == 0 {
             break Search::At(Span {
                 place: at,
-                length: offset,
+                length: validation.offset,
             });
         }
-        at += offset; // to the fault: no byte before it is a sync byte, but it may be one itself
+        at += validation.offset; // to the fault: no byte before it is a sync byte, but it may be one itself
     }
 }

@@ -1,7 +1,7 @@
 -- `recording::deliver` meets its contract: the stream at the place is whole. Assumes nothing.
 use Prim.Native.Nat.{_≤_, _<_}
 use native.Mathlib.Omega.{arith}
-use mathlib.Core.Path.{_≡_, sym}
+use mathlib.Core.Path.{_≡_, sym, _∙_}
 use lib.ListN.{length, drop, length-drop}
 use Rattle.basics.proofs.Over.{part}
 use Rattle.record.specs.Record.{recordOf}
@@ -35,19 +35,22 @@ part-payload-end c = search needs
 payload-requires : tie.Need-payload-requires
 payload-requires c κs = rw part (c .before .before .before .before .before .before .pre .whole)
 
+without-requires : tie.Need-without-requires
+without-requires c κs = search needs
+
 same-length : tie.Need-same-length
 same-length c = search needs
 
 returns : tie.Need-returns
 returns c =
-    let args = c .before .before .before .before .before .before .before .before .before .before .args in
+    let args = c .before .before .before .before .before .before .before .before .before .before .before .args in
     let s = args .input .now in
     let x = drop (args .span .place) s in
     let out = args .out .now in
-    let size : c .before .before .before .payload .result ≡ length (recordOf x .payload) = rw part at (c .before .before .before .payload .ensures .0) in
-    let after = rw part at (c .before .before .before .payload .ensures .1) in
+    let size : c .before .before .before .before .payload .result ≡ length (recordOf x .payload) = rw part at (c .before .before .before .before .payload .ensures .0) in
+    let after = rw part at (c .before .before .before .before .payload .ensures .1) in
     let short : length out < length (recordOf x .payload) = omega (arith, size) in
-    (sym (delivered-short s (args .span .place) (length out) short), after)
+    (c .without .ensures ∙ sym (delivered-short s (args .span .place) (length out) short), after)
 
 same-length-2 : tie.Need-same-length-2
 same-length-2 c = search needs
@@ -76,6 +79,7 @@ deliver-spec =
     part-payload-start
     part-payload-end
     payload-requires
+    without-requires
     same-length
     returns
     same-length-2

@@ -9,13 +9,16 @@ use borrow.Author.Needs.{needs}
 use Rattle.recording.proofs.next.Statement.{statement}
 use Rattle.recording.proofs.next.Tie as tie
 
+without-requires : tie.Need-without-requires
+without-requires c κs = search needs
+
 returns : tie.Need-returns
 returns c =
-    let args = c .before .before .before .args in
+    let args = c .before .before .before .before .args in
     let s = args .input .now in
     let out = args .out .now in
     let six = refusal-past s (args .start) (length out) (omega arith) in
-    (sym (next-refuses s (args .start) (length out) 6 (omega arith) six), sym (output-kept s (args .start) out (omega arith)))
+    (c .without .ensures ∙ sym (next-refuses s (args .start) (length out) 6 (omega arith) six), sym (output-kept s (args .start) out (omega arith)))
 
 first-whole-requires : tie.Need-first-whole-requires
 first-whole-requires c κs = search needs
@@ -29,6 +32,9 @@ deliver-requires c κs =
 
 enum-told : tie.Need-enum-told
 enum-told c = search needs
+
+without-requires-2 : tie.Need-without-requires-2
+without-requires-2 c κs = search needs
 
 same-length : tie.Need-same-length
 same-length c = search needs
@@ -44,12 +50,12 @@ returns-2 c =
 
 returns-3 : tie.Need-returns-3
 returns-3 c =
-    let args = c .before .before .before .before .before .before .args in
+    let args = c .before .before .before .before .before .before .before .args in
     let s = args .input .now in
     let out = args .out .now in
-    let empty = search-none s (args .start) _ (c .before .before .first-whole .ensures) (c .enum-told .given .1) in
+    let empty = search-none s (args .start) _ (c .before .before .before .first-whole .ensures) (c .before .enum-told .given .1) in
     let zero = refusal-none s (args .start) (length out) (omega arith) (rw empty (omega arith)) in (
-      sym (next-answers s (args .start) (length out) zero ∙ ap firstOf empty),
+      c .without2 .ensures ∙ sym (next-answers s (args .start) (length out) zero ∙ ap firstOf empty),
       sym (output-written s (args .start) out zero ∙ rw empty refl),
     )
 
@@ -57,11 +63,13 @@ pub next-spec : {M : Type 1} → statement M
 next-spec =
     tie.close
     (tie.spec
+    without-requires
     returns
     first-whole-requires
     enum-known-span
     deliver-requires
     enum-told
+    without-requires-2
     same-length
     returns-2
     returns-3)

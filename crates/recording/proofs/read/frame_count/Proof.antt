@@ -15,12 +15,9 @@ enum-told c = search needs
 shared-slice-read-result : tie.Need-shared-slice-read-result
 unfolding headerLength
 shared-slice-read-result c =
-    let s = c .before .before .before .args .stream .now in
-    let held : lengthAs Packet s ≤ length s = rw (c .before .enum-told .given .1) at (c .before .before .before .pre) in
+    let s = c .before .before .before .before .args .stream .now in
+    let held : lengthAs Packet s ≤ length s = rw (c .before .enum-told .given .1) at (c .before .before .before .before .pre) in
     omega arith
-
-cast-result : tie.Need-cast-result
-cast-result c = omega (arith, c .shared-slice-known .given 8)
 
 enum-told-2 : tie.Need-enum-told-2
 enum-told-2 c = search needs
@@ -28,15 +25,21 @@ enum-told-2 c = search needs
 enum-told-3 : tie.Need-enum-told-3
 enum-told-3 c = search needs
 
-shared-slice-read-result-2 : tie.Need-shared-slice-read-result-2
+shared-slice-read-telegram-frames : tie.Need-shared-slice-read-telegram-frames
 unfolding headerLength
-shared-slice-read-result-2 c =
-    let s = c .before .before .before .args .stream .now in
-    let held : lengthAs Telegram s ≤ length s = rw (c .before .enum-told3 .given .1) at (c .before .before .before .pre) in
+shared-slice-read-telegram-frames c =
+    let s = c .before .before .before .before .args .stream .now in
+    let held : lengthAs Telegram s ≤ length s = rw (c .before .enum-told3 .given .1) at (c .before .before .before .before .pre) in
     omega arith
 
-cast-result-2 : tie.Need-cast-result-2
-cast-result-2 c = omega (arith, c .shared-slice-known2 .given 6)
+cast-telegram-frames : tie.Need-cast-telegram-frames
+cast-telegram-frames c = omega (arith, c .shared-slice-known3 .given 6)
+
+telegram-frames-requires : tie.Need-telegram-frames-requires
+telegram-frames-requires c κs = search needs
+
+cast-result : tie.Need-cast-result
+cast-result c = omega (arith, c .telegram-frames .ensures)
 
 enum-told-4 : tie.Need-enum-told-4
 enum-told-4 c = search needs
@@ -51,7 +54,7 @@ returns-2 c = rw (c .enum-told2 .given .1) refl
 
 returns-3 : tie.Need-returns-3
 unfolding frameCount
-returns-3 c = rw (c .before .enum-told3 .given .1) refl
+returns-3 c = rw (c .before .before .enum-told3 .given .1) (c .telegram-frames .ensures)
 
 returns-4 : tie.Need-returns-4
 unfolding frameCount
@@ -63,11 +66,12 @@ frame-count-spec =
     (tie.spec
     enum-told
     shared-slice-read-result
-    cast-result
     enum-told-2
     enum-told-3
-    shared-slice-read-result-2
-    cast-result-2
+    shared-slice-read-telegram-frames
+    cast-telegram-frames
+    telegram-frames-requires
+    cast-result
     enum-told-4
     returns
     returns-2

@@ -10,7 +10,7 @@ use Rattle.septet.proofs.Laws.{length-withTopBits}
 use Rattle.record.specs.Record.{unframed}
 use Rattle.basics.specs.Bytes.{over}
 use Rattle.basics.proofs.Over.{lent, part}
-use Rattle.record.proofs.Writing.{fewer}
+use Rattle.record.proofs.StreamParts.{fewer}
 use Rattle.recording.proofs.Reading.{unframed-step}
 use Rattle.recording.proofs.read.frames.Statement.{statement}
 use Rattle.recording.proofs.read.frames.Tie as tie

@@ -5,10 +5,11 @@ use mathlib.Core.Path.{_≡_, sym, ap, _∙_}
 use lib.ListN.{length}
 use mathlib.Core.List.{List}
 use Rattle.basics.specs.Bytes.{over}
+use Rattle.basics.proofs.Output.{output-kept, output-written}
 use Rattle.stream.specs.Layout.{payloadLength}
 use Rattle.record.specs.Record.{recordOf}
 use Rattle.recording.proofs.Deliveries.{whole-long}
-use Rattle.recording.proofs.Reading.{whole-there, whole-few, whole-size, whole-payload, output-short, output-fits}
+use Rattle.recording.proofs.Reading.{whole-there, whole-few, whole-size, whole-payload}
 use borrow.Author.Needs.{needs}
 use Rattle.recording.proofs.read.payload.Statement.{statement}
 use Rattle.recording.proofs.read.payload.Tie as tie
@@ -23,8 +24,7 @@ frame-count-requires : tie.Need-frame-count-requires
 frame-count-requires c κs = whole-there (c .before .before .before .before .args .stream .now) (c .before .before .before .before .pre) _ (c .kind-of .ensures)
 
 payload-length-requires : tie.Need-payload-length-requires
-payload-length-requires c κs =
-    omega (arith, c .frame-count .ensures, whole-few (c .before .before .before .before .before .args .stream .now) (c .before .before .before .before .before .pre) (c .before .kind-of .result) (c .before .kind-of .ensures))
+payload-length-requires c κs = search needs
 
 returns : tie.Need-returns
 returns c =
@@ -33,7 +33,10 @@ returns c =
     let kind = c .before .before .before .kind-of in
     let size : c .before .payload-length .result ≡ length (recordOf s .payload) =
     c .before .payload-length .ensures ∙ ap (payloadLength (kind .result)) (c .before .before .frame-count .ensures) ∙ whole-size s (c .before .before .before .before .before .before .before .pre) (kind .result) (kind .ensures) in
-    (size, sym (output-short (recordOf s .payload) out (omega (arith, size))))
+    (size, sym (output-kept (recordOf s .payload) out (omega (arith, size))))
+
+cast-payload-as : tie.Need-cast-payload-as
+cast-payload-as c = search needs
 
 payload-as-requires : tie.Need-payload-as-requires
 payload-as-requires c κs =
@@ -60,7 +63,7 @@ returns-2 c =
       size,
       c .before .before .payload-as .ensures
           ∙ ap (λ (l : List ℕ). over l out) (whole-payload s (c .before .before .before .before .before .before .before .before .before .before .before .pre) (kind .result) (kind .ensures))
-          ∙ sym (output-fits (recordOf s .payload) out (omega (arith, size))),
+          ∙ sym (output-written (recordOf s .payload) out (omega (arith, size))),
     )
 
 pub payload-spec : {M : Type 1} → statement M
@@ -72,6 +75,7 @@ payload-spec =
     frame-count-requires
     payload-length-requires
     returns
+    cast-payload-as
     payload-as-requires
     same-length
     returns-2)

@@ -8,7 +8,8 @@ use native.Mathlib.Nat.{add-zero}
 use lib.ListN.{length, getD, drop, length-drop}
 use lib.Seq.{getD-drop}
 use Rattle.basics.proofs.Over.{part}
-use Rattle.stream.specs.Validation.{Answer, validationOf}
+use Rattle.stream.specs.Validation.{validationOf}
+use Rattle.stream.specs.declared.Validation.{Validation}
 use Rattle.stream.proofs.Offsets.{offset-within, offset-behind}
 use Rattle.recording.specs.Recording.{deliveriesAfter}
 use Rattle.recording.specs.Stage.{searched}
@@ -19,10 +20,10 @@ use Rattle.recording.proofs.search.first_whole.Statement.{statement}
 use Rattle.recording.proofs.search.first_whole.Tie as tie
 
 -- past a fault the search moves on, and not past the end
-fault-moves : (s : List ℕ) (r : ℕ) (a : Answer) → r < length s → getD s r 0 ≡ 0xAA → a ≡ validationOf (drop r s) → (0 < a .offset) × (r + a .offset ≤ length s)
+fault-moves : (s : List ℕ) (r : ℕ) (a : Validation) → r < length s → getD s r 0 ≡ 0xAA → a ≡ validationOf (drop r s) → (0 < a .offset) × (r + a .offset ≤ length s)
 fault-moves s r a inside sync is =
     let first : getD (drop r s) 0 0 ≡ 0xAA = getD-drop r s 0 0 ∙ rw add-zero sync in
-    let same = ap (λ (a : Answer). a .offset) is in
+    let same = ap (λ (a : Validation). a .offset) is in
     let long = length-drop r s in
     (omega (arith, same, offset-behind (drop r s) (omega arith) first), omega (arith, same, long, offset-within (drop r s)))
 
@@ -50,32 +51,28 @@ part-validate-end c = search needs
 validate-requires : tie.Need-validate-requires Inv-loop μ-loop
 validate-requires c κs = search needs
 
-number-requires : tie.Need-number-requires Inv-loop μ-loop
-number-requires c κs = search needs
-
 add-at : tie.Need-add-at Inv-loop μ-loop
 add-at c =
-    let s = c .before .before .before .before .before .before .before .before .args .input .now in
-    let r = c .before .before .before .before .before .next-sync .result in
-    let moved = fault-moves s r _ (omega arith) (c .before .before .before .before .before .next-sync .ensures .here (omega arith)) (rw part at (c .before .before .validate .ensures)) in
-    omega (arith, moved)
+    let sync = c .before .before .before .before .before .before in
+    let s = sync .before .before .before .args .input .now in
+    omega (arith, fault-moves s (sync .next-sync .result) _ (omega arith) (sync .next-sync .ensures .here (omega arith)) (rw part at (c .before .before .before .validate .ensures)))
 
 loop-less : tie.Need-loop-less Inv-loop μ-loop
 loop-less c =
-    let s = c .before .before .before .before .before .before .before .before .args .input .now in
-    let r = c .before .before .before .before .before .next-sync .result in
-    let moved = fault-moves s r _ (omega arith) (c .before .before .before .before .before .next-sync .ensures .here (omega arith)) (rw part at (c .before .before .validate .ensures)) in
-    omega (arith, moved, c .before .before .before .before .before .next-sync .ensures .after)
+    let sync = c .before .before .before .before .before .before in
+    let s = sync .before .before .before .args .input .now in
+    let moved = fault-moves s (sync .next-sync .result) _ (omega arith) (sync .next-sync .ensures .here (omega arith)) (rw part at (c .before .before .before .validate .ensures)) in
+    omega (arith, moved, sync .next-sync .ensures .after)
 
 loop-again : tie.Need-loop-again Inv-loop μ-loop
 loop-again c =
-    let s = c .before .before .before .before .before .before .before .before .args .input .now in
-    let r = c .before .before .before .before .before .next-sync .result in
-    let at = after-sync s (c .before .before .before .before .before .before .loop .at) r (c .before .before .before .before .before .next-sync .ensures) in
-    let answer = rw part at (c .before .before .validate .ensures) in
-    let number : c .before .number .result ≡ validationOf (drop r s) .number = c .before .number .ensures ∙ ap (λ (a : Answer). a .number) answer in
-    let on = after-fault s r (λ w. c .if2 .left (number ∙ w)) in
-    ap (λ (a : Answer). deliveriesAfter s (r + a .offset)) answer ∙ sym (at ∙ on) ∙ c .before .before .before .before .before .before .loop .inv
+    let sync = c .before .before .before .before .before .before in
+    let s = sync .before .before .before .args .input .now in
+    let r = sync .next-sync .result in
+    let at = after-sync s (sync .before .loop .at) r (sync .next-sync .ensures) in
+    let answer = rw part at (c .before .before .before .validate .ensures) in
+    let on = after-fault s r (λ w. c .before .if2 .left (ap (λ (a : Validation). a .verdict) answer ∙ w)) in
+    ap (λ (a : Validation). deliveriesAfter s (r + a .offset)) answer ∙ sym (at ∙ on) ∙ sync .before .loop .inv
 
 returns : tie.Need-returns Inv-loop μ-loop
 returns c =
@@ -85,13 +82,13 @@ returns c =
 
 returns-2 : tie.Need-returns-2 Inv-loop μ-loop
 returns-2 c =
-    let s = c .before .before .before .before .before .before .before .before .args .input .now in
-    let r = c .before .before .before .before .before .next-sync .result in
-    let at = after-sync s (c .before .before .before .before .before .before .loop .at) r (c .before .before .before .before .before .next-sync .ensures) in
+    let sync = c .before .before .before .before .before in
+    let s = sync .before .before .before .args .input .now in
+    let r = sync .next-sync .result in
+    let at = after-sync s (sync .before .loop .at) r (sync .next-sync .ensures) in
     let answer = rw part at (c .before .before .validate .ensures) in
-    let number : c .before .number .result ≡ validationOf (drop r s) .number = c .before .number .ensures ∙ ap (λ (a : Answer). a .number) answer in
-    let here = after-here s r (sym number ∙ c .if2 .taken) in
-    ap (λ (a : Answer). At (record { place = r; length = a .offset })) answer ∙ ap searched (sym here ∙ sym at ∙ c .before .before .before .before .before .before .loop .inv)
+    let here = after-here s r (sym (ap (λ (a : Validation). a .verdict) answer) ∙ c .if2 .taken) in
+    ap (λ (a : Validation). At (record { place = r; length = a .offset })) answer ∙ ap searched (sym here ∙ sym at ∙ sync .before .loop .inv)
 
 pub first-whole-spec : {M : Type 1} → statement M
 first-whole-spec =
@@ -105,7 +102,6 @@ first-whole-spec =
     part-validate-start
     part-validate-end
     validate-requires
-    number-requires
     add-at
     loop-less
     loop-again
