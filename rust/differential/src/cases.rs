@@ -66,7 +66,7 @@ impl Checker {
             let same = found.found
                 && found.place == at
                 && found.header == record.header
-                && payload[..found.payload] == record.payload[..];
+                && payload[..found.payload_length] == record.payload[..];
             self.holds(same, || {
                 format!("the normalized recording's records: {}", hex(input))
             })?;
@@ -142,7 +142,7 @@ impl Checker {
                 return Ok(records);
             }
             if records.len() < 2 {
-                let need = found.payload;
+                let need = found.payload_length;
                 for room in [0, need.saturating_sub(1), need, need + 1] {
                     self.next(input, start, room)?;
                 }

@@ -55,7 +55,7 @@ fn round_trip(stream: &[u8]) -> (Header, Vec<u8>) {
     let found = next(stream, 0, &mut payload);
     assert_eq!((found.number, found.found), (0, true));
     assert_eq!((found.place, found.length), (0, stream.len()));
-    let payload = payload[..found.payload].to_vec();
+    let payload = payload[..found.payload_length].to_vec();
     let mut out = vec![0; stream.len()];
     let written = encode(found.header, &payload, &mut out);
     assert_eq!((written.number, written.length), (0, stream.len()));
@@ -149,7 +149,7 @@ fn finding_records() {
     assert_eq!(validate(&input), verdict(2, 1));
     let mut payload = [0xEE; 5];
     let found = next(&input, 0, &mut payload);
-    assert_eq!((found.place, found.length, found.payload), (1, 16, 4));
+    assert_eq!((found.place, found.length, found.payload_length), (1, 16, 4));
     assert_eq!(payload, [0x07, 0x04, 0x0F, 0x00, 0xEE]);
     let mut short = [0xEE; 3];
     assert_eq!(
