@@ -216,11 +216,8 @@ impl Checker {
 
     fn random_sections(&mut self) -> Checked<()> {
         let payload = recordings::block_payload(&mut self.rng);
-        let header = Header {
-            source: self.rng.word(),
-            ..BLOCK
-        };
-        self.sections(header, &payload)
+        let source = recordings::source(&mut self.rng);
+        self.sections(Header { source, ..BLOCK }, &payload)
     }
 
     fn random_broken_sections(&mut self) -> Checked<()> {
@@ -336,6 +333,7 @@ impl Checker {
         self.every_cut()?;
         self.every_septet()?;
         self.every_section()?;
+        self.every_block_header()?;
         for length in 0..300 {
             let block = self.rng.bytes(length);
             self.checksum(&block)?;
@@ -545,6 +543,31 @@ impl Checker {
         }
         for length in 0..=530 {
             self.section_count(BLOCK, &vec![0; length])?;
+        }
+        Ok(())
+    }
+
+    /// Every version and every bit of the other fields around a block packet's header, with a
+    /// payload whose sections are right: only the source is free.
+    fn every_block_header(&mut self) -> Checked<()> {
+        let payload = [1, 0x0B, 0, 0, 1, 2, 3, 4, 0, 0x08, 0, 0];
+        for source in [0, BLOCK.source, 0xFFFF] {
+            let block = Header { source, ..BLOCK };
+            self.sections(block, &payload)?;
+            for version in 0..=255 {
+                self.sections(Header { version, ..block }, &payload)?;
+            }
+            for bit in 0..16 {
+                let mut other = block;
+                other.source ^= 1 << bit;
+                self.sections(other, &payload)?;
+                let mut other = block;
+                other.destination ^= 1 << bit;
+                self.sections(other, &payload)?;
+                let mut other = block;
+                other.command ^= 1 << bit;
+                self.sections(other, &payload)?;
+            }
         }
         Ok(())
     }
