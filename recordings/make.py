@@ -327,7 +327,7 @@ def empty():
 
 
 def lister():
-    """The lister's stored run, which `rt ci` makes: document 01's P1, D1 and T2, the smallest and the largest streams, and damage."""
+    """What `rt ci` runs the lister on: document 01's P1, D1 and T2, the smallest and the largest streams, and damage."""
     r = Recording()
     r.packet(0x4411, 0x6610, 0x0200, bytes.fromhex("07040F00"))
     r.datagram(0x0020, 0x1911, 0x0100, 0, 0)
