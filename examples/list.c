@@ -53,7 +53,7 @@ int main(int argc, char **argv) {
             /* can't refuse: start is at most size, and the room suffices for any record */
             vbus_found next = vbus_next(recording, size, start, payload, sizeof payload);
             if (!next.found) break;
-            print_record(next.header, payload, next.payload);
+            print_record(next.header, payload, next.payload_length);
             start = next.place + next.length;
         }
     }

@@ -1,8 +1,8 @@
 #!/usr/bin/env python3
-"""Makes the recordings, and with read.py the listing expected of each.
+"""Makes the recordings, and with tests/rules.py the listing expected of each.
 
-usage: make.py           the recordings of this folder
-       make.py FOLDER    those, and the two that are too large to ship (full, over), into FOLDER
+usage: make.py           the recordings of this folder, and crates/lister/stdin and stdout
+       make.py FOLDER    the same (the lister's as lister.vbus and lister.txt), and the two too large to ship (full, over), into FOLDER
 
 The streams are written here from RESOL's specification alone (document 000); nothing of the library is used. Each piece of a recording
 carries the lines that it must give, so that the reader is checked by the writer. The same files come out every time.
@@ -10,7 +10,11 @@ carries the lines that it must give, so that the reader is checked by the writer
 import os
 import sys
 
-import read
+HERE = os.path.dirname(os.path.abspath(__file__))
+LISTER = os.path.join(HERE, "..", "crates", "lister")
+sys.path.insert(0, os.path.join(HERE, "..", "tests"))
+sys.dont_write_bytecode = True
+import rules
 
 
 class Numbers:
@@ -317,25 +321,63 @@ def over():
     return r
 
 
-SHIPPED = [examples, sizes, damage, plant, Recording]
+def empty():
+    """No bytes."""
+    return Recording()
+
+
+def lister():
+    """What `rt ci` runs the lister on: document 01's P1, D1 and T2, the smallest and the largest streams, and damage."""
+    r = Recording()
+    r.packet(0x4411, 0x6610, 0x0200, bytes.fromhex("07040F00"))
+    r.datagram(0x0020, 0x1911, 0x0100, 0, 0)
+    r.telegram(0x7731, 0x2010, 0x23, bytes.fromhex("38900DB6C62300"))
+    printed = """
+        AA 11 44 10 66 10 00 02 01 21 07 04 0F 00 00 65
+        AA 20 00 11 19 20 00 01 00 00 00 00 00 00 00 14
+        AA 31 77 10 20 30 23 54 38 10 0D 36 46 23 00 1A 71"""
+    assert r.bytes == bytes.fromhex(printed)
+    assert r.lines == ["P 4411 6610 10 0200 07040F00", "D 0020 1911 20 0100 000000000000", "T 7731 2010 30 23 38900DB6C62300"]
+    numbers = Numbers(1)
+    r.packet(0x0010, 0x7E21, 0x0100, numbers.some(508))
+    r.packet(0x0010, 0x7E21, 0x0300, b"")
+    r.telegram(0x2010, 0x7731, 0x04)
+    r.telegram(0x7731, 0x2110, 0x69, numbers.some(21), version=0x31)
+    r.noise(bytes.fromhex("00 FF 7F AA 55 80 AA"))
+    # six frames announced, the first with a wrong checksum; a whole telegram stands in place of the next ones
+    whole = one(lambda s: s.packet(0x0010, 0x7E21, 0x0100, numbers.some(24)))
+    r.noise(whole[:15] + bytes([whole[15] ^ 1]))
+    r.telegram(0x7731, 0x2010, 0x25, bytes.fromhex("E803E900000000"))
+    r.noise(whole[33:])
+    r.datagram(0x0020, 0x7210, 0x0100, 0x1234, -750)
+    r.noise(one(SAMPLES[1])[:-1])
+    return r
+
+
+SHIPPED = [examples, sizes, damage, plant, empty]
 LARGE = [full, over]
 
 
-def write(folder, make):
-    name = "empty" if make is Recording else make.__name__
+def write(make, recording_file, listing_file):
     recording = make()
-    listing = read.listing(bytes(recording.bytes))
-    assert listing == "".join(line + "\n" for line in recording.lines), f"{name}: the reader and the writer disagree"
-    with open(os.path.join(folder, name + ".vbus"), "wb") as file:
+    listing = rules.listing(bytes(recording.bytes))
+    assert listing == "".join(line + "\n" for line in recording.lines), f"{make.__name__}: the reader and the writer disagree"
+    with open(recording_file, "wb") as file:
         file.write(recording.bytes)
-    with open(os.path.join(folder, name + ".txt"), "w", newline="\n") as file:
+    with open(listing_file, "w", newline="\n") as file:
         file.write(listing)
+
+
+def write_into(folder, make):
+    path = os.path.join(folder, make.__name__)
+    write(make, path + ".vbus", path + ".txt")
 
 
 if __name__ == "__main__":
     if len(sys.argv) > 1:
-        for make in SHIPPED + LARGE:
-            write(sys.argv[1], make)
+        for make in SHIPPED + [lister] + LARGE:
+            write_into(sys.argv[1], make)
     else:
         for make in SHIPPED:
-            write(os.path.dirname(os.path.abspath(__file__)), make)
+            write_into(HERE, make)
+        write(lister, os.path.join(LISTER, "stdin"), os.path.join(LISTER, "stdout"))

@@ -49,10 +49,10 @@ static vbus_header header(uint8_t version, uint16_t destination, uint16_t source
     return made;
 }
 
-static int found_is(vbus_found a, uint32_t number, int found, size_t place, size_t length, vbus_header h, size_t payload) {
+static int found_is(vbus_found a, uint32_t number, int found, size_t place, size_t length, vbus_header h, size_t payload_length) {
     return a.number == number && (int)a.found == found && a.place == place && a.length == length &&
            a.header.version == h.version && a.header.destination == h.destination && a.header.source == h.source &&
-           a.header.command == h.command && a.payload == payload;
+           a.header.command == h.command && a.payload_length == payload_length;
 }
 static int written_is(vbus_written a, uint32_t number, size_t length) { return a.number == number && a.length == length; }
 static int count_is(vbus_count a, uint32_t number, size_t count) { return a.number == number && a.count == count; }
@@ -76,7 +76,7 @@ static void layouts(void) {
     CHECK(sizeof(vbus_validation) == 16 && offsetof(vbus_validation, verdict) == 0 && offsetof(vbus_validation, offset) == 8);
     CHECK(sizeof(vbus_found) == 40 && offsetof(vbus_found, number) == 0 && offsetof(vbus_found, found) == 4 &&
           offsetof(vbus_found, place) == 8 && offsetof(vbus_found, length) == 16 && offsetof(vbus_found, header) == 24 &&
-          offsetof(vbus_found, payload) == 32);
+          offsetof(vbus_found, payload_length) == 32);
     CHECK(sizeof(vbus_written) == 16 && offsetof(vbus_written, number) == 0 && offsetof(vbus_written, length) == 8);
     CHECK(sizeof(vbus_count) == 16 && offsetof(vbus_count, number) == 0 && offsetof(vbus_count, count) == 8);
     CHECK(sizeof(vbus_part) == 24 && offsetof(vbus_part, number) == 0 && offsetof(vbus_part, start) == 8 &&
@@ -84,7 +84,7 @@ static void layouts(void) {
     CHECK(sizeof(vbus_septets) == 32 && offsetof(vbus_septets, number) == 0 && offsetof(vbus_septets, bytes) == 4 &&
           offsetof(vbus_septets, length) == 16 && offsetof(vbus_septets, septet) == 24);
     CHECK(sizeof(bool) == 1 && WIDTH(vbus_validation, verdict) == 1 && WIDTH(vbus_validation, offset) == 8 &&
-          WIDTH(vbus_found, number) == 4 && WIDTH(vbus_found, payload) == 8 && WIDTH(vbus_written, number) == 4 &&
+          WIDTH(vbus_found, number) == 4 && WIDTH(vbus_found, payload_length) == 8 && WIDTH(vbus_written, number) == 4 &&
           WIDTH(vbus_written, length) == 8 && WIDTH(vbus_count, number) == 4 && WIDTH(vbus_count, count) == 8 &&
           WIDTH(vbus_part, number) == 4 && WIDTH(vbus_part, length) == 8 && WIDTH(vbus_septets, number) == 4 &&
           WIDTH(vbus_septets, septet) == 1);

@@ -87,7 +87,7 @@ macro_rules! next_all {
             black_box(&$payload);
             seen = seen
                 .wrapping_mul(31)
-                .wrapping_add(answer.place ^ answer.payload);
+                .wrapping_add(answer.place ^ answer.payload_length);
             start = answer.place + answer.length;
         }
         seen

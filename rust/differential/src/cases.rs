@@ -66,7 +66,7 @@ impl Checker {
             let same = found.found
                 && found.place == at
                 && found.header == record.header
-                && payload[..found.payload] == record.payload[..];
+                && payload[..found.payload_length] == record.payload[..];
             self.holds(same, || {
                 format!("the normalized recording's records: {}", hex(input))
             })?;
@@ -142,7 +142,7 @@ impl Checker {
                 return Ok(records);
             }
             if records.len() < 2 {
-                let need = found.payload;
+                let need = found.payload_length;
                 for room in [0, need.saturating_sub(1), need, need + 1] {
                     self.next(input, start, room)?;
                 }
@@ -216,11 +216,8 @@ impl Checker {
 
     fn random_sections(&mut self) -> Checked<()> {
         let payload = recordings::block_payload(&mut self.rng);
-        let header = Header {
-            source: self.rng.word(),
-            ..BLOCK
-        };
-        self.sections(header, &payload)
+        let source = recordings::source(&mut self.rng);
+        self.sections(Header { source, ..BLOCK }, &payload)
     }
 
     fn random_broken_sections(&mut self) -> Checked<()> {
@@ -336,6 +333,7 @@ impl Checker {
         self.every_cut()?;
         self.every_septet()?;
         self.every_section()?;
+        self.every_block_header()?;
         for length in 0..300 {
             let block = self.rng.bytes(length);
             self.checksum(&block)?;
@@ -545,6 +543,31 @@ impl Checker {
         }
         for length in 0..=530 {
             self.section_count(BLOCK, &vec![0; length])?;
+        }
+        Ok(())
+    }
+
+    /// Every version and every bit of the other fields around a block packet's header, with a
+    /// payload whose sections are right: only the source is free.
+    fn every_block_header(&mut self) -> Checked<()> {
+        let payload = [1, 0x0B, 0, 0, 1, 2, 3, 4, 0, 0x08, 0, 0];
+        for source in [0, BLOCK.source, 0xFFFF] {
+            let block = Header { source, ..BLOCK };
+            self.sections(block, &payload)?;
+            for version in 0..=255 {
+                self.sections(Header { version, ..block }, &payload)?;
+            }
+            for bit in 0..16 {
+                let mut other = block;
+                other.source ^= 1 << bit;
+                self.sections(other, &payload)?;
+                let mut other = block;
+                other.destination ^= 1 << bit;
+                self.sections(other, &payload)?;
+                let mut other = block;
+                other.command ^= 1 << bit;
+                self.sections(other, &payload)?;
+            }
         }
         Ok(())
     }

@@ -220,7 +220,7 @@ impl Checker {
             || output.lend(|out| reference::next(input, start, out)),
         )?;
         self.number(found.number);
-        let payload = left[output.from..output.from + found.payload].to_vec();
+        let payload = left[output.from..output.from + found.payload_length].to_vec();
         Ok((found, payload))
     }
 

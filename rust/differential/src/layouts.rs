@@ -29,7 +29,7 @@ struct FoundBytes {
     place: usize,
     length: usize,
     header: sys::Header,
-    payload: usize,
+    payload_length: usize,
 }
 
 impl Checker {
@@ -71,7 +71,7 @@ impl Checker {
             offset_of!(sys::Found, place),
             offset_of!(sys::Found, length),
             offset_of!(sys::Found, header),
-            offset_of!(sys::Found, payload),
+            offset_of!(sys::Found, payload_length),
             offset_of!(sys::Septets, bytes),
             offset_of!(sys::Septets, length),
             offset_of!(sys::Septets, septet),
@@ -92,7 +92,7 @@ impl Checker {
                 place: 3,
                 length: 22,
                 header: HEADER,
-                payload: 8,
+                payload_length: 8,
             },
         )?;
         self.expect("vbus_next's payload", &payload[..8], &PAYLOAD[..])?;
@@ -247,7 +247,7 @@ impl Checker {
                 answer.place,
                 answer.length,
                 answer.header.command,
-                answer.payload,
+                answer.payload_length,
             );
             self.expect("vbus_next, with the flag as a byte", fields, expected)?;
         }

@@ -72,7 +72,7 @@ pub fn next(input: &[u8], start: usize, payload: &mut [u8]) -> Found {
             source: answer.header.source,
             command: answer.header.command,
         },
-        payload: answer.payload,
+        payload_length: answer.payload_length,
     }
 }
 

@@ -367,12 +367,23 @@ pub fn block_payload(rng: &mut Rng) -> Vec<u8> {
     payload
 }
 
+/// A block packet's source, which is free: 0 often.
+pub fn source(rng: &mut Rng) -> u16 {
+    match rng.below(4) {
+        0 => 0,
+        _ => rng.word(),
+    }
+}
+
 /// A block packet's header or payload with something wrong.
 pub fn broken_block(rng: &mut Rng) -> (Header, Vec<u8>) {
-    let mut header = BLOCK;
+    let mut header = Header {
+        source: source(rng),
+        ..BLOCK
+    };
     let mut payload = block_payload(rng);
     match rng.below(7) {
-        0 => header.version = rng.pick(&[0x00, 0x11, 0x20, 0x30, 0x31, 0x90]),
+        0 => header.version ^= 1 << rng.below(8),
         1 => header.destination ^= 1 << rng.below(16),
         2 => header.command ^= 1 << rng.below(16),
         3 => {

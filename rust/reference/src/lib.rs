@@ -55,7 +55,7 @@ pub struct Found {
     pub place: usize,
     pub length: usize,
     pub header: Header,
-    pub payload: usize,
+    pub payload_length: usize,
 }
 
 #[derive(Clone, Copy, PartialEq, Eq, Debug, Default)]
@@ -175,7 +175,7 @@ fn telegram_frames(command: u8) -> usize {
 struct Stream {
     kind: Kind,
     length: usize,
-    payload: usize,
+    payload_length: usize,
 }
 
 type Parsed<T> = Result<T, Validation>;
@@ -248,7 +248,7 @@ fn parse(input: &[u8]) -> Parsed<Stream> {
     let Some(kind) = Kind::of(input[5]) else {
         return fault(3, 5);
     };
-    let (length, payload) = match kind {
+    let (length, payload_length) = match kind {
         Kind::Packet => {
             seven_bit(input, 6, 10)?;
             if input[9] != checksum(&input[1..9]) {
@@ -280,7 +280,7 @@ fn parse(input: &[u8]) -> Parsed<Stream> {
     Ok(Stream {
         kind,
         length,
-        payload,
+        payload_length,
     })
 }
 
@@ -353,7 +353,7 @@ pub fn next(input: &[u8], start: usize, payload: &mut [u8]) -> Found {
     let Some((place, stream)) = find(input, start) else {
         return Found::default();
     };
-    let Some(room) = payload.get_mut(..stream.payload) else {
+    let Some(room) = payload.get_mut(..stream.payload_length) else {
         return refused(NO_ROOM);
     };
     let bytes = &input[place..place + stream.length];
@@ -364,7 +364,7 @@ pub fn next(input: &[u8], start: usize, payload: &mut [u8]) -> Found {
         place,
         length: stream.length,
         header: header_of(bytes, stream.kind),
-        payload: stream.payload,
+        payload_length: stream.payload_length,
     }
 }
 

@@ -55,7 +55,7 @@ fn round_trip(stream: &[u8]) -> (Header, Vec<u8>) {
     let found = next(stream, 0, &mut payload);
     assert_eq!((found.number, found.found), (0, true));
     assert_eq!((found.place, found.length), (0, stream.len()));
-    let payload = payload[..found.payload].to_vec();
+    let payload = payload[..found.payload_length].to_vec();
     let mut out = vec![0; stream.len()];
     let written = encode(found.header, &payload, &mut out);
     assert_eq!((written.number, written.length), (0, stream.len()));
@@ -149,7 +149,10 @@ fn finding_records() {
     assert_eq!(validate(&input), verdict(2, 1));
     let mut payload = [0xEE; 5];
     let found = next(&input, 0, &mut payload);
-    assert_eq!((found.place, found.length, found.payload), (1, 16, 4));
+    assert_eq!(
+        (found.place, found.length, found.payload_length),
+        (1, 16, 4)
+    );
     assert_eq!(payload, [0x07, 0x04, 0x0F, 0x00, 0xEE]);
     let mut short = [0xEE; 3];
     assert_eq!(
@@ -302,11 +305,38 @@ fn broken_sections() {
     assert_eq!(section_count(BLOCK, &payload[..7]).number, 8);
     assert_eq!(section_count(BLOCK, &[0; 512]).number, 8);
     assert_eq!(section_count(BLOCK, &[0; 508]).count, 127);
-    let other = Header {
-        command: 0x0200,
-        ..BLOCK
+}
+
+#[test]
+fn only_block_packets_have_sections() {
+    let payload = [1, 0x0B, 0, 0, 0, 0, 0, 0];
+    let number = |header| {
+        let numbers = [
+            section_count(header, &payload).number,
+            section(header, &payload, 0).number,
+            element_count(header, &payload, 0).number,
+            element(header, &payload, 0, 0).number,
+        ];
+        assert_eq!(numbers, [numbers[0]; 4]);
+        numbers[0]
     };
-    assert_eq!(section_count(other, &payload).number, 8);
+    for source in [0, 0x7E21, 0xFFFF] {
+        let block = Header { source, ..BLOCK };
+        assert_eq!(number(block), 0);
+        for version in (0..=255).filter(|&version| version != 0x10) {
+            assert_eq!(number(Header { version, ..block }), 8);
+        }
+        for bit in 0..16 {
+            let destination = 0x0015 ^ 1 << bit;
+            let header = Header {
+                destination,
+                ..block
+            };
+            assert_eq!(number(header), 8);
+            let command = 0x0100 ^ 1 << bit;
+            assert_eq!(number(Header { command, ..block }), 8);
+        }
+    }
 }
 
 #[test]

@@ -236,7 +236,7 @@ pub fn next<'b>(
             source: answer.header.source,
             command: answer.header.command,
         },
-        payload: &buffer[..answer.payload],
+        payload: &buffer[..answer.payload_length],
     }))
 }
 

@@ -24,7 +24,7 @@ pub struct Found {
     pub place: usize,
     pub length: usize,
     pub header: Header,
-    pub payload: usize,
+    pub payload_length: usize,
 }
 
 #[repr(C)]

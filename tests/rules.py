@@ -1,0 +1,221 @@
+"""Document 01's rules, read independently of the library: nothing of it is used here.
+
+Plain and slow, to compare with. Streams, payloads and recordings are bytes; a record is (version, destination, source, command, payload),
+a header the same without the payload. `number` is 0, or the refusal's.
+"""
+
+PACKET, DATAGRAM, TELEGRAMS = 0x10, 0x20, (0x30, 0x31)
+HEADER = {0x10: 10, 0x20: 16, 0x30: 8, 0x31: 8}  # bytes before the first frame
+WIDTH = {0x10: 4, 0x20: 6, 0x30: 7, 0x31: 7}  # payload bytes to a septet
+
+# ── checksum and septet
+
+
+def checksum(data):
+    total = 0x7F
+    for byte in data:
+        total = (total - byte) & 0x7F
+    return total
+
+
+def without_top_bits(block):
+    return bytes(b & 0x7F for b in block), sum(1 << i for i, b in enumerate(block) if b & 0x80)
+
+
+def with_top_bits(block, septet):
+    return bytes(b | (septet >> i & 1) << 7 for i, b in enumerate(block))
+
+
+def extract(block, length):
+    """number, seven bytes, length, septet"""
+    if length > 7:
+        return 7, bytes(7), 0, 0
+    low, septet = without_top_bits(block[:length])
+    return 0, low.ljust(7, b"\0"), length, septet
+
+
+def inject(block, length, septet):
+    """number, seven bytes, length, septet"""
+    if length > 7 or any(b >= 0x80 for b in block[:length]) or septet >= 0x80 or septet >> length:
+        return 7, bytes(7), 0, 0
+    return 0, with_top_bits(block[:length], septet).ljust(7, b"\0"), length, 0
+
+
+# ── one stream
+
+
+def frame_count(s):
+    return s[8] if s[5] == PACKET else 0 if s[5] == DATAGRAM else s[6] >> 5 & 3
+
+
+def validate(s):
+    """the verdict's number, and the offset"""
+    end = None  # known once the header is right
+    for k, byte in enumerate(s):
+        if k == end:
+            break
+        if k == 0:
+            if byte != 0xAA:
+                return 1, 0
+            continue
+        if byte >= 0x80:
+            return 2, k
+        if k == 5 and byte not in HEADER:
+            return 3, 5
+        if k < 6:
+            continue
+        head, width = HEADER[s[5]], WIDTH[s[5]]
+        if k < head:
+            if s[5] == DATAGRAM and k == 14 and byte >> 6:
+                return 5, 14
+            if k == head - 1:
+                if checksum(s[1:k]) != byte:
+                    return 4, k
+                end = head + (width + 2) * frame_count(s)
+            continue
+        start = head + (k - head) // (width + 2) * (width + 2)
+        if k == start + width and byte >> width:
+            return 5, k
+        if k == start + width + 1 and checksum(s[start:k]) != byte:
+            return 6, k
+    return (0, end) if end is not None and len(s) >= end else (7, len(s))
+
+
+def decode(s):
+    """the record of the whole stream that these bytes begin with"""
+    word = lambda k: s[k] | s[k + 1] << 8
+    version, width = s[5], WIDTH[s[5]]
+    starts = [8] if version == DATAGRAM else [HEADER[version] + (width + 2) * j for j in range(frame_count(s))]
+    payload = b"".join(with_top_bits(s[a : a + width], s[a + width]) for a in starts)
+    return version, word(1), word(3), s[6] if version in TELEGRAMS else word(6), payload
+
+
+def written(record):
+    """the stream of a record that fits"""
+    version, destination, source, command, payload = record
+    word = lambda x: x.to_bytes(2, "little")
+    header = word(destination) + word(source) + bytes([version])
+    frames = b""
+    if version == DATAGRAM:
+        low, septet = without_top_bits(payload)
+        header += word(command) + low + bytes([septet])
+    else:
+        for a in range(0, len(payload), WIDTH[version]):
+            low, septet = without_top_bits(payload[a : a + WIDTH[version]])
+            frame = low + bytes([septet])
+            frames += frame + bytes([checksum(frame)])
+        header += bytes([command]) if version in TELEGRAMS else word(command) + bytes([len(payload) // 4])
+    return b"\xAA" + header + bytes([checksum(header)]) + frames
+
+
+def encode(record, room):
+    """number, stream"""
+    version, destination, source, command, payload = record
+    if version not in HEADER:
+        return 1, b""
+    if (destination | source) & 0x8080:
+        return 2, b""
+    if command > 0x7F if version in TELEGRAMS else command & 0x8080:
+        return 3, b""
+    if version == PACKET:
+        fits = len(payload) % 4 == 0 and len(payload) <= 508
+    else:
+        fits = len(payload) == (6 if version == DATAGRAM else 7 * (command >> 5 & 3))
+    if not fits:
+        return 4, b""
+    return (5, b"") if room < len(written(record)) else (0, written(record))
+
+
+# ── a recording
+
+
+def places(s, start=0):
+    return [k for k in range(start, len(s) + 1) if validate(s[k:])[0] == 0]
+
+
+def deliveries(s):
+    return [decode(s[k:]) for k in places(s)]
+
+
+def next_record(s, start, room):
+    """number, and (place, length, record) or None"""
+    if start > len(s):
+        return 6, None
+    found = places(s, start)
+    if not found:
+        return 0, None
+    rest = s[found[0] :]
+    if room < len(decode(rest)[4]):
+        return 5, None
+    return 0, (found[0], validate(rest)[1], decode(rest))
+
+
+def normalize(s, room):
+    """number, bytes"""
+    out = b"".join(written(record) for record in deliveries(s))
+    return (5, b"") if room < len(out) else (0, out)
+
+
+# ── sections of a block packet
+
+ELEMENT_SIZE = {0x01: 2, 0x05: 4, 0x08: 1, 0x0A: 8, 0x0B: 4, 0x0C: 4, 0x0D: 4}
+
+
+def sections(header, payload):
+    """number, and the start of each section"""
+    version, destination, _, command = header
+    if (version, destination, command) != (0x10, 0x0015, 0x0100) or len(payload) % 4 or len(payload) > 508:
+        return 8, []
+    starts, at = [], 0
+    while at < len(payload):
+        starts.append(at)
+        at += 4 + 4 * payload[at]
+    return (0, starts) if at == len(payload) else (9, [])
+
+
+def section_count(header, payload):
+    """number, count"""
+    number, starts = sections(header, payload)
+    return number, len(starts)
+
+
+def section(header, payload, k):
+    """number, start, length"""
+    number, starts = sections(header, payload)
+    if number or k >= len(starts):
+        return number or 10, 0, 0
+    return 0, starts[k], 4 + 4 * payload[starts[k]]
+
+
+def element_count(header, payload, k):
+    """number, count"""
+    number, start, length = section(header, payload, k)
+    if number:
+        return number, 0
+    size = ELEMENT_SIZE.get(payload[start + 1])
+    return (0, (length - 4) // size) if size else (11, 0)
+
+
+def element(header, payload, k, i):
+    """number, start, length"""
+    number, count = element_count(header, payload, k)
+    if number or i >= count:
+        return number or 10, 0, 0
+    start = section(header, payload, k)[1]
+    size = ELEMENT_SIZE[payload[start + 1]]
+    return 0, start + 4 + i * size, size
+
+
+# ── the lister
+
+
+def line(record):
+    version, destination, source, command, payload = record
+    kind, digits = {PACKET: ("P", 4), DATAGRAM: ("D", 4)}.get(version, ("T", 2))
+    return f"{kind} {destination:04X} {source:04X} {version:02X} {command:0{digits}X} {payload.hex().upper()}".rstrip()
+
+
+def listing(recording):
+    if len(recording) > 65536:
+        return "too long\n"
+    return "".join(line(record) + "\n" for record in deliveries(recording))
