@@ -1,0 +1,39 @@
+// Bytes of a stream: checksums, septets, and the verdict on a stretch.
+ghost use mathlib.Core.Path.{_≡_};
+ghost use Rattle.checksum.specs.Checksum.{checksumOf};
+ghost use Rattle.septet.specs.Answer.{extracted, injected};
+ghost use Rattle.stream.specs.Validation.{validationOf};
+use septet::Septets;
+use stream::Validation;
+
+// The checksum of a block.
+#[no_mangle]
+pub extern "C" fn vbus_checksum(block: &[u8]) -> u8
+    ensures { λ r. ⌜ r ≡ checksumOf (now (block .entry)) ⌝ }
+{
+    checksum::checksum(block)
+}
+
+// The first `used` bytes without their top bits, and the septet that holds these.
+#[no_mangle]
+pub extern "C" fn vbus_extract(bytes: &[u8; 7], used: usize) -> Septets
+    ensures { λ r. ⌜ r ≡ extracted (now (bytes .entry)) used ⌝ }
+{
+    septet::extract(*bytes, used)
+}
+
+// The first `used` bytes with the septet's bits as their top bits.
+#[no_mangle]
+pub extern "C" fn vbus_inject(bytes: &[u8; 7], used: usize, septet: u8) -> Septets
+    ensures { λ r. ⌜ r ≡ injected (now (bytes .entry)) used septet ⌝ }
+{
+    septet::inject(*bytes, used, septet)
+}
+
+// The verdict on the stream that `input` begins with: 0 to 7 for V0 to V7, with the offset.
+#[no_mangle]
+pub extern "C" fn vbus_validate(input: &[u8]) -> Validation
+    ensures { λ r. ⌜ r ≡ validationOf (now (input .entry)) ⌝ }
+{
+    stream::validate(input)
+}
