@@ -4,9 +4,9 @@
  * called from the same place, is taken off; so a figure holds the export's own return address and all that it calls.
  * Every input runs with two patterns, as a byte written may happen to equal one of them.
  *
- *   stack LIMIT RECORDING..
+ *   stack LIMIT SECTIONS-LIMIT RECORDING..
  *
- * Exit status: 1 if an export uses more than LIMIT bytes.
+ * Exit status: 1 if an export uses more than LIMIT bytes, or a section function more than SECTIONS-LIMIT.
  */
 #define _XOPEN_SOURCE 700
 #include <stdio.h>
@@ -193,11 +193,12 @@ static void blocks(size_t n, const uint8_t *payload) {
 }
 
 int main(int argc, char **argv) {
-    if (argc < 2) {
-        fprintf(stderr, "usage: stack LIMIT RECORDING..\n");
+    if (argc < 3) {
+        fprintf(stderr, "usage: stack LIMIT SECTIONS-LIMIT RECORDING..\n");
         return 2;
     }
     size_t limit = strtoul(argv[1], NULL, 10);
+    size_t sections_limit = strtoul(argv[2], NULL, 10);
     uint8_t payload[512];
     for (size_t i = 0; i < sizeof payload; i++) payload[i] = (uint8_t)(i * 73 + 5);
 
@@ -261,7 +262,7 @@ int main(int argc, char **argv) {
             recording(at);
         }
     }
-    for (int i = 2; i < argc; i++) {
+    for (int i = 3; i < argc; i++) {
         FILE *file = fopen(argv[i], "rb");
         if (file == NULL) {
             perror(argv[i]);
@@ -272,7 +273,7 @@ int main(int argc, char **argv) {
         recording(size);
     }
 
-    /* 127 sections without a frame: the longest chain that there is, where a call for each section would show */
+    /* 127 sections without a frame: the longest chain that there is */
     uint8_t chain[512] = {0};
     for (size_t i = 0; i < 127; i++) chain[4 * i + 1] = 0x01;
     for (size_t size = 0; size <= 512; size += 4) blocks(size, chain);
@@ -297,10 +298,11 @@ int main(int argc, char **argv) {
     int over = 0;
     printf("%-20s %6s\n", "export", "bytes");
     for (int i = 0; i < EXPORTS; i++) {
-        printf("%-20s %6zu%s\n", names[i], deepest[i], deepest[i] > limit ? "  over the limit" : "");
-        over += deepest[i] > limit;
+        size_t most = i >= SECTION_COUNT ? sections_limit : limit;
+        printf("%-20s %6zu%s\n", names[i], deepest[i], deepest[i] > most ? "  over the limit" : "");
+        over += deepest[i] > most;
     }
-    printf("%lu calls measured; the limit is %zu bytes\n", calls, limit);
+    printf("%lu calls measured; limits %zu and, of the lookups of sections, %zu bytes\n", calls, limit, sections_limit);
     printf("%d passed, %d failed\n", EXPORTS - over, over);
     return over == 0 ? 0 : 1;
 }

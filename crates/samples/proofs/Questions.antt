@@ -4,29 +4,26 @@ use mathlib.Core.Bool.{Bool, true, false}
 use mathlib.Core.List.{List, [], _∷_, _++_}
 use lib.IntN.{ℤ, pos, negsuc}
 use lib.ListN.{replicate}
-use Rattle.basics.specs.Output as Outputs
+use Rattle.basics.specs.declared.Written.{Written}
 use Rattle.checksum.specs.Checksum.{checksumOf}
-use Rattle.septet.specs.Block.{extracted, injected}
-use Rattle.septet.specs.declared.Block.{Block}
-use Rattle.stream.specs.Validation.{validationOf}
-use Rattle.stream.specs.Validation as Verdicts
+use Rattle.septet.specs.Answer.{extracted, injected}
+use Rattle.septet.specs.declared.Septets.{Septets}
+use Rattle.stream.specs.Validation.{number, validationOf}
 use Rattle.stream.specs.declared.Validation.{Validation}
+use Rattle.stream.specs.declared.Verdict.{Verdict}
 use Rattle.record.specs.Record.{Record, recordOf}
 use Rattle.record.specs.Encode.{unwritable, encodingOf}
 use Rattle.record.specs.Encode as Encodings
 use Rattle.record.specs.Value.{valueOf}
 use Rattle.record.specs.declared.Header.{Header}
-use Rattle.record.specs.declared.Encoded.{Encoded}
-use Rattle.recording.specs.Next.{nextOf}
-use Rattle.recording.specs.Next as Nexts
+use Rattle.recording.specs.Next.{nextOf, payloadAfter}
 use Rattle.recording.specs.Normalize.{normalizingOf}
 use Rattle.recording.specs.Normalize as Normals
-use Rattle.recording.specs.declared.NextRecord.{NextRecord}
-use Rattle.block.specs.Answer.{sectionCount, sectionFound, sectionShown, elementCount, elementFound, elementShown}
-use Rattle.block.specs.Element.{temperatureOf}
-use Rattle.block.specs.declared.Count.{Count}
-use Rattle.block.specs.declared.Part.{Part}
-use Rattle.recording.specs.declared.Normalized.{Normalized}
+use Rattle.recording.specs.declared.Found.{Found}
+use Rattle.sections.specs.Answer.{sectionCount, sectionFound, sectionShown, elementCount, elementFound, elementShown}
+use Rattle.sections.specs.Element.{temperatureOf}
+use Rattle.sections.specs.declared.Count.{Count}
+use Rattle.sections.specs.declared.Part.{Part}
 
 -- an output is given by its room
 pub data Question : Type 0 where
@@ -45,16 +42,13 @@ pub data Question : Type 0 where
   elements : Header → List ℕ → ℕ → Question
   element : Header → List ℕ → ℕ → ℕ → Question
   temperature : List ℕ → Question
-  validation : Validation → Question
-  encoded : Encoded → Question
-  nextRecord : NextRecord → Question
-  normalized : Normalized → Question
+  verdict : Verdict → Question
 
 -- an output before a call
 abbrev pub untouched : ℕ → List ℕ
 untouched room = replicate room 0xEE
 
-abbrev blockTold : Block → List ℕ
+abbrev blockTold : Septets → List ℕ
 blockTold b = b .number ∷ b .length ∷ b .septet ∷ b .bytes
 
 abbrev headerTold : Header → List ℕ
@@ -69,14 +63,14 @@ abbrev boolTold : Bool → ℕ
 boolTold true = 1
 boolTold false = 0
 
-abbrev validationTold : Verdicts.Answer → List ℕ
-validationTold a = a .number ∷ a .offset ∷ []
+abbrev validationTold : Validation → List ℕ
+validationTold a = a .verdict ∷ a .offset ∷ []
 
-abbrev writtenTold : Outputs.Answer → List ℕ
+abbrev writtenTold : Written → List ℕ
 writtenTold a = a .number ∷ a .length ∷ []
 
-abbrev nextTold : Nexts.Answer → List ℕ
-nextTold a = a .number ∷ boolTold (a .found) ∷ a .place ∷ a .length ∷ (headerTold (a .header) ++ (a .payload ∷ []))
+abbrev nextTold : Found → List ℕ
+nextTold a = a .number ∷ boolTold (a .found) ∷ a .place ∷ a .length ∷ (headerTold (a .header) ++ (a .«payload_length» ∷ []))
 
 abbrev countTold : Count → List ℕ
 countTold c = c .number ∷ c .count ∷ []
@@ -93,14 +87,11 @@ answer (read s) = headerTold (recordOf s .header) ++ recordOf s .payload
 answer (carry r) = unwritable r ∷ []
 answer (encode r room) = writtenTold (encodingOf r room) ++ Encodings.outputAfter r (untouched room)
 answer (value payload) = signedTold (valueOf payload)
-answer (next s start room) = nextTold (nextOf s start room) ++ Nexts.outputAfter s start (untouched room)
+answer (next s start room) = nextTold (nextOf s start room) ++ payloadAfter s start (untouched room)
 answer (normalize s room) = writtenTold (normalizingOf s room) ++ Normals.outputAfter s (untouched room)
 answer (sections h payload) = countTold (sectionCount h payload)
 answer (section h payload k) = partTold (sectionFound h payload k) ++ sectionShown h payload k
 answer (elements h payload k) = countTold (elementCount h payload k)
 answer (element h payload k i) = partTold (elementFound h payload k i) ++ elementShown h payload k i
 answer (temperature bytes) = signedTold (temperatureOf bytes)
-answer (validation r) = Verdicts.number (r .verdict) ∷ validationTold (Verdicts.answerOf r)
-answer (encoded e) = Encodings.number e ∷ writtenTold (Encodings.answerOf e)
-answer (nextRecord r) = Nexts.number r ∷ nextTold (Nexts.answerOf r)
-answer (normalized r) = Normals.number r ∷ writtenTold (Normals.answerOf r)
+answer (verdict v) = number v ∷ []

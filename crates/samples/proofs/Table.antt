@@ -9,23 +9,20 @@ use Rattle.basics.specs.Output.{roomRefusal}
 use Rattle.basics.specs.Words.{signed}
 use Rattle.checksum.specs.Checksum.{checksumFrom}
 use Rattle.septet.specs.Septet.{septetOf, lowBits, withTopBits}
-use Rattle.septet.specs.Block.{anyHigh}
+use Rattle.septet.specs.Answer.{anyHigh}
 use Rattle.stream.specs.Layout.{kindOf, headerLength, frameWidth, frameCount, streamLength, payloadLength}
 use Rattle.stream.specs.Validation.{frameRule, headerRule, ruleAt, breach, faultAt, validationFrom}
 use Rattle.stream.specs.declared.Verdict.the-variants.{Whole, NoSync, HighByte, UnknownVersion, HeaderChecksum, UnusedSeptetBit, FrameChecksum, Ended}
 use Rattle.record.specs.Record.{recordOf, unframed, commandIn, payloadIn, framed, framesOf, kindBytes, streamAs, streamOf}
 use Rattle.record.specs.Encode.{unwritable}
 use Rattle.record.specs.Encode as Encodings
-use Rattle.record.specs.declared.Encoded.the-variants as Encoded
 use Rattle.recording.specs.Recording.{deliveriesFrom}
 use Rattle.recording.specs.Next as Nexts
 use Rattle.recording.specs.Normalize.{streams}
-use Rattle.recording.specs.declared.NextRecord.the-variants as NextRecord
-use Rattle.recording.specs.declared.Normalized.the-variants as Normalized
-use Rattle.block.specs.Section.{cut, someShort}
-use Rattle.block.specs.Element.{elementSize}
-use Rattle.block.specs.Answer.{notBlock}
-use Rattle.samples.proofs.Questions.{Question, checksum, extract, inject, validate, read, carry, encode, value, next, normalize, sections, section, elements, element, temperature, validation, encoded, nextRecord, normalized, untouched, answer}
+use Rattle.sections.specs.Section.{cut, someShort}
+use Rattle.sections.specs.Element.{elementSize}
+use Rattle.sections.specs.Answer.{notBlock}
+use Rattle.samples.proofs.Questions.{Question, checksum, extract, inject, validate, read, carry, encode, value, next, normalize, sections, section, elements, element, temperature, verdict, untouched, answer}
 use Rattle.samples.proofs.Samples.{bytes, recorded, p1, d1, t1, t2, twoFrames, sixTopBits, threeFrames, threeFramesPayload, damaged, packet, datagram, telegram, blockHeader, example, eachType}
 
 -- a question and the answer that the papers give
@@ -176,6 +173,7 @@ blockSections =
     ∷ (sections blockHeader (bytes 6 0x000B0000_000B), 8 ∷ 0 ∷ [])
     ∷ (sections blockHeader (replicate 508 0), 0 ∷ 127 ∷ [])
     ∷ (sections blockHeader (replicate 512 0), 8 ∷ 0 ∷ [])
+    ∷ (sections (record { version = 0x10; destination = 0x0015; source = 0; command = 0x0100 }) [], 0 ∷ 0 ∷ [])
     ∷ (sections (record { version = 0x20; destination = 0x0015; source = 0; command = 0x0100 }) [], 8 ∷ 0 ∷ [])
     ∷ (sections (record { version = 0x11; destination = 0x0015; source = 0; command = 0x0100 }) [], 8 ∷ 0 ∷ [])
     ∷ (sections (record { version = 0x10; destination = 0x0016; source = 0; command = 0x0100 }) [], 8 ∷ 0 ∷ [])
@@ -198,36 +196,21 @@ blockSections =
     ∷ (temperature (0xFF ∷ 0x7F ∷ []), 0 ∷ 32767 ∷ [])
     ∷ []
 
--- each case of each enum
-abbrev cases : List Row
-cases =
-    (validation (record { verdict = Whole; offset = 9 }), 0 ∷ 0 ∷ 9 ∷ [])
-    ∷ (validation (record { verdict = NoSync; offset = 9 }), 1 ∷ 1 ∷ 9 ∷ [])
-    ∷ (validation (record { verdict = HighByte; offset = 9 }), 2 ∷ 2 ∷ 9 ∷ [])
-    ∷ (validation (record { verdict = UnknownVersion; offset = 9 }), 3 ∷ 3 ∷ 9 ∷ [])
-    ∷ (validation (record { verdict = HeaderChecksum; offset = 9 }), 4 ∷ 4 ∷ 9 ∷ [])
-    ∷ (validation (record { verdict = UnusedSeptetBit; offset = 9 }), 5 ∷ 5 ∷ 9 ∷ [])
-    ∷ (validation (record { verdict = FrameChecksum; offset = 9 }), 6 ∷ 6 ∷ 9 ∷ [])
-    ∷ (validation (record { verdict = Ended; offset = 9 }), 7 ∷ 7 ∷ 9 ∷ [])
-    ∷ (encoded (Encoded.Written 9), 0 ∷ 0 ∷ 9 ∷ [])
-    ∷ (encoded Encoded.UnknownVersion, 1 ∷ 1 ∷ 0 ∷ [])
-    ∷ (encoded Encoded.HighAddress, 2 ∷ 2 ∷ 0 ∷ [])
-    ∷ (encoded Encoded.HighCommand, 3 ∷ 3 ∷ 0 ∷ [])
-    ∷ (encoded Encoded.WrongLength, 4 ∷ 4 ∷ 0 ∷ [])
-    ∷ (encoded Encoded.OutputTooShort, 5 ∷ 5 ∷ 0 ∷ [])
-    ∷ (
-      nextRecord (NextRecord.Found (record { place = 1; length = 2; header = recorded 3 4 5 6 [] .header; «payload_length» = 7 })),
-      0 ∷ 0 ∷ 1 ∷ 1 ∷ 2 ∷ 3 ∷ 4 ∷ 5 ∷ 6 ∷ 7 ∷ [],
-    )
-    ∷ (nextRecord NextRecord.Nothing, 0 ∷ noRecord 0 0)
-    ∷ (nextRecord NextRecord.StartPastEnd, 6 ∷ noRecord 6 0)
-    ∷ (nextRecord NextRecord.OutputTooShort, 5 ∷ noRecord 5 0)
-    ∷ (normalized (Normalized.Written 9), 0 ∷ 0 ∷ 9 ∷ [])
-    ∷ (normalized Normalized.OutputTooShort, 5 ∷ 5 ∷ 0 ∷ [])
+-- V0 to V7
+abbrev verdictNumbers : List Row
+verdictNumbers =
+    (verdict Whole, 0 ∷ [])
+    ∷ (verdict NoSync, 1 ∷ [])
+    ∷ (verdict HighByte, 2 ∷ [])
+    ∷ (verdict UnknownVersion, 3 ∷ [])
+    ∷ (verdict HeaderChecksum, 4 ∷ [])
+    ∷ (verdict UnusedSeptetBit, 5 ∷ [])
+    ∷ (verdict FrameChecksum, 6 ∷ [])
+    ∷ (verdict Ended, 7 ∷ [])
     ∷ []
 
 abbrev table : List Row
-table = starred ++ (blocks ++ (verdicts ++ (records ++ (recordings ++ (blockSections ++ cases)))))
+table = starred ++ (blocks ++ (verdicts ++ (records ++ (recordings ++ (blockSections ++ verdictNumbers)))))
 
 samples : map (λ (row : Row). answer (row .0)) table ≡ map (λ (row : Row). row .1) table
 unfolding choose signed checksumFrom septetOf lowBits withTopBits anyHigh kindOf headerLength frameWidth frameCount streamLength payloadLength frameRule headerRule ruleAt breach faultAt validationFrom recordOf unframed commandIn payloadIn framed framesOf kindBytes streamAs streamOf unwritable Encodings.refusal deliveriesFrom Nexts.refusal streams roomRefusal cut someShort elementSize notBlock flatten

@@ -1,12 +1,12 @@
 // Checksums and septets. A septet's line: the number, all seven bytes, the length and the septet.
 use crate::line::Line;
-use septet::Block;
+use septet::Septets;
 
 fn checksum_of(name: &[u8], block: &[u8]) {
     Line::new(name).byte(checksum::checksum(block)).print();
 }
 
-fn block(name: &[u8], block: Block) {
+fn block(name: &[u8], block: Septets) {
     let bytes = block.bytes;
     Line::new(name)
         .number(block.number as u64)

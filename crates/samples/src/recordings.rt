@@ -1,14 +1,12 @@
 // Recordings: the next record from a place on, and a recording normalized (document 01: wash).
-use crate::answers::found;
-use crate::answers::normalized;
 use crate::line::Line;
 use crate::parts::first;
 use crate::parts::pattern;
-use recording::NextRecord;
-use recording::Normalized;
+use basics::Written;
+use recording::Found;
 
 // The next record, its payload in the first bytes of the output.
-fn next_to(input: &[u8], start: usize, out: &mut [u8], room: usize) -> NextRecord {
+fn next_to(input: &[u8], start: usize, out: &mut [u8], room: usize) -> Found {
     if room <= out.len() {
         return recording::next(input, start, &mut out[0..room]);
     }
@@ -16,30 +14,30 @@ fn next_to(input: &[u8], start: usize, out: &mut [u8], room: usize) -> NextRecor
 }
 
 // The place and the length of a record that was found, and its header; or that there is none.
-fn told(line: Line, answer: NextRecord) -> Line {
-    match answer {
-        NextRecord::Found(record) => line.number(record.place as u64)
-            .number(record.length as u64)
-            .header(record.header),
-        NextRecord::Nothing => line.say(b"none"),
-        NextRecord::StartPastEnd => line,
-        NextRecord::OutputTooShort => line,
+fn told(line: Line, answer: Found) -> Line {
+    if answer.found {
+        return line.number(answer.place as u64)
+            .number(answer.length as u64)
+            .header(answer.header);
     }
+    if answer.number != 0 {
+        return line;
+    }
+    line.say(b"none")
 }
 
 // The number, what was found, its payload, and whether the rest of the output was kept.
 fn next(name: &[u8], input: &[u8], start: usize, room: usize) {
     let mut out = pattern();
     let answer = next_to(input, start, &mut out, room);
-    let record = found(answer);
-    let count = record.payload_length;
-    told(Line::new(name).number(answer.number() as u64), answer).bytes(first(&out, count))
+    let count = answer.payload_length;
+    told(Line::new(name).number(answer.number as u64), answer).bytes(first(&out, count))
         .kept(&out, count)
         .print();
 }
 
 // The recording normalized into the first bytes of the output.
-fn normalize_to(input: &[u8], out: &mut [u8], room: usize) -> Normalized {
+fn normalize_to(input: &[u8], out: &mut [u8], room: usize) -> Written {
     if room <= out.len() {
         return recording::normalize(input, &mut out[0..room]);
     }
@@ -50,9 +48,9 @@ fn normalize_to(input: &[u8], out: &mut [u8], room: usize) -> Normalized {
 fn normalize(name: &[u8], input: &[u8], room: usize) {
     let mut out = pattern();
     let answer = normalize_to(input, &mut out, room);
-    let count = normalized(answer);
+    let count = answer.length;
     Line::new(name)
-        .number(answer.number() as u64)
+        .number(answer.number as u64)
         .number(count as u64)
         .bytes(first(&out, count))
         .kept(&out, count)

@@ -1,16 +1,22 @@
 // Records written: the number, the length and the bytes, and whether every byte of the output behind them was kept.
-use crate::answers::found;
-use crate::answers::header;
-use crate::answers::written;
 use crate::line::Line;
 use crate::parts::behind;
 use crate::parts::first;
 use crate::parts::pattern;
-use record::Encoded;
+use basics::Written;
 use record::Header;
 
+pub fn header(version: u8, destination: u16, source: u16, command: u16) -> Header {
+    Header {
+        version,
+        destination,
+        source,
+        command,
+    }
+}
+
 // The record written to the first bytes of the output.
-fn encode_to(header: Header, payload: &[u8], out: &mut [u8], room: usize) -> Encoded {
+fn encode_to(header: Header, payload: &[u8], out: &mut [u8], room: usize) -> Written {
     if room <= out.len() {
         return record::encode(header, payload, &mut out[0..room]);
     }
@@ -20,9 +26,9 @@ fn encode_to(header: Header, payload: &[u8], out: &mut [u8], room: usize) -> Enc
 fn encode(name: &[u8], header: Header, payload: &[u8], room: usize) {
     let mut out = pattern();
     let answer = encode_to(header, payload, &mut out, room);
-    let count = written(answer);
+    let count = answer.length;
     Line::new(name)
-        .number(answer.number() as u64)
+        .number(answer.number as u64)
         .number(count as u64)
         .bytes(first(&out, count))
         .kept(&out, count)
@@ -67,7 +73,7 @@ fn nothing_fits(name: &[u8], version: u8, destination: u16, command: u16) {
 // Whether `next` reads this payload back from a stream.
 fn reads_back(stream: &[u8], payload: &[u8]) -> bool {
     let mut out = pattern();
-    let record = found(recording::next(stream, 0, &mut out));
+    let record = recording::next(stream, 0, &mut out);
     check::same(first(&out, record.payload_length), payload)
 }
 
@@ -75,9 +81,9 @@ fn reads_back(stream: &[u8], payload: &[u8]) -> bool {
 fn long_packet(name: &[u8], payload: &[u8]) {
     let mut out = pattern();
     let answer = record::encode(header(0x10, 0x4411, 0x6610, 0x0200), payload, &mut out);
-    let count = written(answer);
+    let count = answer.length;
     Line::new(name)
-        .number(answer.number() as u64)
+        .number(answer.number as u64)
         .number(count as u64)
         .tell(reads_back(first(&out, count), payload), b"ok", b"other")
         .kept(&out, count)
@@ -100,10 +106,10 @@ fn fields(id: u16, value: u32) -> [u8; 6] {
 fn row(name: &[u8], destination: u16, source: u16, command: u16, payload: [u8; 6]) {
     let mut out = [0u8; 16];
     let header = header(0x20, destination, source, command);
-    let count = written(record::encode(header, &payload, &mut out));
+    let count = record::encode(header, &payload, &mut out).length;
     let line = Line::new(name).bytes(first(&out, count));
     let mut back = [0u8; 6];
-    let record = found(recording::next(&out, 0, &mut back));
+    let record = recording::next(&out, 0, &mut back);
     line.header(record.header)
         .bytes(first(&back, record.payload_length))
         .signed(record::value(back))

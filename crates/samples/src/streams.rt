@@ -1,13 +1,11 @@
 // One stream: the verdict and its offset and, of a whole one, its record and whether writing that gives these bytes again.
-use crate::answers::found;
-use crate::answers::written;
 use crate::line::Line;
 use crate::parts::first;
 use record::Header;
 
 fn again(line: Line, header: Header, payload: &[u8], stream: &[u8]) -> Line {
     let mut out = [0u8; 772];
-    let count = written(record::encode(header, payload, &mut out));
+    let count = record::encode(header, payload, &mut out).length;
     line.header(header).bytes(payload).tell(
         check::same(first(&out, count), stream),
         b"again",
@@ -17,7 +15,7 @@ fn again(line: Line, header: Header, payload: &[u8], stream: &[u8]) -> Line {
 
 fn record_of(line: Line, stream: &[u8]) -> Line {
     let mut payload = [0u8; 508];
-    let record = found(recording::next(stream, 0, &mut payload));
+    let record = recording::next(stream, 0, &mut payload);
     again(
         line,
         record.header,
@@ -29,10 +27,9 @@ fn record_of(line: Line, stream: &[u8]) -> Line {
 fn stream(name: &[u8], input: &[u8]) {
     let validation = stream::validate(input);
     let verdict = validation.verdict;
-    let number = verdict.number();
     let offset = validation.offset;
-    let line = Line::new(name).verdict(number).number(offset as u64);
-    if number == 0 {
+    let line = Line::new(name).verdict(verdict).number(offset as u64);
+    if verdict == 0 {
         record_of(line, first(input, offset)).print();
     } else {
         line.print();

@@ -3,8 +3,8 @@ use mir.Syntax.{w16}
 use mir.Val.{SFits}
 use mir.Facts.{sfits-widen, toZ-ofZ}
 use borrow.Author.Needs.{needs}
-use Rattle.samples.proofs.sections.temperature.Statement.{statement}
-use Rattle.samples.proofs.sections.temperature.Tie as tie
+use Rattle.samples.proofs.block_packets.temperature.Statement.{statement}
+use Rattle.samples.proofs.block_packets.temperature.Tie as tie
 
 new-requires : tie.Need-new-requires
 new-requires c κs = search needs
