@@ -5,7 +5,7 @@ use native.Mathlib.Numerals.{add-one}
 use mathlib.Core.Path.{_≡_, ap, _∙_}
 use mathlib.Core.List.{List, [], _∷_, _++_, append-assoc, append-nil}
 use lib.ListN.{length, take, drop, getD, set, length-append, length-drop, drop-of-length-le}
-use lib.Seq.{take-all, take-at, drop-at, drop-cons, drop-append-seam, drop-drop, set-at}
+use lib.Seq.{take-all, take-length, take-at, drop-at, drop-cons, drop-append-seam, drop-drop, set-at}
 use Rattle.basics.specs.Bytes.{over}
 
 -- one byte more
@@ -31,6 +31,10 @@ pub put : (l new : List ℕ) (a : ℕ) → take a l ++ (new ++ drop (length l - 
 put l new a =
     ap (λ (r : List ℕ). take a l ++ (new ++ r)) (drop-of-length-le (drop a l) {i = length l - a} (simp length-drop (omega arith)))
     ∙ ap (λ (r : List ℕ). take a l ++ r) (append-nil new)
+
+-- a list copied over the start, as the kit's `bytes::copy` says it
+pub copied : (p source l new : List ℕ) → source ≡ p → new ≡ take (length source) source ++ drop (length source) l → new ≡ over p l
+copied p source l new e k = k ∙ rw (take-length, e)
 
 -- the part behind p, lent to be written over by q
 pub lent : (p q l₀ l new : List ℕ) (a : ℕ) → length p ≡ a → l ≡ over p l₀ → new ≡ over q (take (length l - a) (drop a l))

@@ -15,7 +15,9 @@ use Rattle.record.specs.declared.Header.{Header}
 use Rattle.record.specs.Record.{Record, framesOf}
 use Rattle.record.specs.Encode.{unwritable, Writable}
 use Rattle.record.proofs.Carried.{Carried, carried-of}
-use Rattle.listing.specs.Line.{byteHex, wordHex, bytesHex, isByte, commandHex, spaced, payloadHex, headHex, lineOf}
+use Rattle.text.specs.Ascii.{ascii}
+use Rattle.text.specs.Hex.{byteHex, wordHex}
+use Rattle.listing.specs.Line.{bytesHex, isByte, commandHex, spaced, payloadHex, headHex, lineOf}
 
 -- ── a payload's digits
 
@@ -75,11 +77,11 @@ length-head K h = omega arith
 
 -- the line of a record whose kind is told
 module _ (K : Kind) (r : Record) (told : K ≡ kindOf (r .header .version)) where
-  pub line-as : lineOf r ≡ (headHex K (r .header) ++ payloadHex (r .payload)) ++ (0x0A ∷ [])
+  pub line-as : lineOf r ≡ (headHex K (r .header) ++ payloadHex (r .payload)) ++ ascii "\n"
   unfolding lineOf
   line-as =
-      ap (λ (k : Kind). headHex k (r .header) ++ (payloadHex (r .payload) ++ (0x0A ∷ []))) (sym told)
-      ∙ sym (append-assoc (headHex K (r .header)) (payloadHex (r .payload)) (0x0A ∷ []))
+      ap (λ (k : Kind). headHex k (r .header) ++ (payloadHex (r .payload) ++ ascii "\n")) (sym told)
+      ∙ sym (append-assoc (headHex K (r .header)) (payloadHex (r .payload)) (ascii "\n"))
 
   pub length-line : length (lineOf r) ≡ length (headHex K (r .header)) + length (payloadHex (r .payload)) + 1
   length-line = ap length line-as ∙ simp length-append

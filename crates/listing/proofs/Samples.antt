@@ -11,8 +11,8 @@ use Rattle.stream.specs.Layout.{kindOf, headerLength, frameWidth, frameCount, s
 use Rattle.stream.specs.Validation.{frameRule, headerRule, ruleAt, breach, faultAt, validationFrom}
 use Rattle.record.specs.Record.{Record, recordOf, commandIn, payloadIn, unframed}
 use Rattle.recording.specs.Recording.{deliveriesFrom}
-use Rattle.listing.specs.declared.Listed.the-variants.{Written, OutputTooShort}
-use Rattle.listing.specs.Line.{bytesHex, commandHex, payloadHex, headHex, lineOf, linesOf, listingOf, answerOf, listedOf, outputAfter}
+use Rattle.text.specs.Ascii.{ascii}
+use Rattle.listing.specs.Line.{bytesHex, commandHex, payloadHex, headHex, lineOf, linesOf, listingOf, listedOf, outputAfter}
 
 -- AA 11 44 10 66 10 00 02 01 21 07 04 0F 00 00 65
 p1 : List ℕ
@@ -26,56 +26,31 @@ d1 = 0xAA ∷ 0x20 ∷ 0x00 ∷ 0x11 ∷ 0x19 ∷ 0x20 ∷ 0x00 ∷ 0x01 ∷ 0x0
 t2 : List ℕ
 t2 = 0xAA ∷ 0x31 ∷ 0x77 ∷ 0x10 ∷ 0x20 ∷ 0x30 ∷ 0x23 ∷ 0x54 ∷ 0x38 ∷ 0x10 ∷ 0x0D ∷ 0x36 ∷ 0x46 ∷ 0x23 ∷ 0x00 ∷ 0x1A ∷ 0x71 ∷ []
 
--- P 4411 6610 10 0200 07040F00
-packet : List ℕ
-packet = 0x50 ∷ 0x20 ∷ 0x34 ∷ 0x34 ∷ 0x31 ∷ 0x31 ∷ 0x20 ∷ 0x36 ∷ 0x36 ∷ 0x31 ∷ 0x30 ∷ 0x20 ∷ 0x31 ∷ 0x30 ∷ 0x20 ∷ 0x30 ∷ 0x32 ∷ 0x30 ∷ 0x30 ∷ 0x20 ∷ 0x30 ∷ 0x37 ∷ 0x30 ∷ 0x34 ∷ 0x30 ∷ 0x46 ∷ 0x30 ∷ 0x30 ∷ 0x0A ∷ []
-
--- D 0020 1911 20 0100 000000000000
-datagram : List ℕ
-datagram = 0x44 ∷ 0x20 ∷ 0x30 ∷ 0x30 ∷ 0x32 ∷ 0x30 ∷ 0x20 ∷ 0x31 ∷ 0x39 ∷ 0x31 ∷ 0x31 ∷ 0x20 ∷ 0x32 ∷ 0x30 ∷ 0x20 ∷ 0x30 ∷ 0x31 ∷ 0x30 ∷ 0x30 ∷ 0x20 ∷ 0x30 ∷ 0x30 ∷ 0x30 ∷ 0x30 ∷ 0x30 ∷ 0x30 ∷ 0x30 ∷ 0x30 ∷ 0x30 ∷ 0x30 ∷ 0x30 ∷ 0x30 ∷ 0x0A ∷ []
-
--- T 7731 2010 30 23 38900DB6C62300
-telegram : List ℕ
-telegram = 0x54 ∷ 0x20 ∷ 0x37 ∷ 0x37 ∷ 0x33 ∷ 0x31 ∷ 0x20 ∷ 0x32 ∷ 0x30 ∷ 0x31 ∷ 0x30 ∷ 0x20 ∷ 0x33 ∷ 0x30 ∷ 0x20 ∷ 0x32 ∷ 0x33 ∷ 0x20 ∷ 0x33 ∷ 0x38 ∷ 0x39 ∷ 0x30 ∷ 0x30 ∷ 0x44 ∷ 0x42 ∷ 0x36 ∷ 0x43 ∷ 0x36 ∷ 0x32 ∷ 0x33 ∷ 0x30 ∷ 0x30 ∷ 0x0A ∷ []
-
 -- fed P1, D1, T2 one after the other, the whole output is these three lines
-example : listingOf (p1 ++ (d1 ++ t2)) ≡ packet ++ (datagram ++ telegram)
-unfolding p1 d1 t2 packet datagram telegram linesOf lineOf headHex payloadHex commandHex bytesHex deliveriesFrom recordOf commandIn payloadIn unframed withTopBits validationFrom streamLength kindOf choose headerLength frameWidth frameCount faultAt breach ruleAt headerRule frameRule checksumFrom
+example : listingOf (p1 ++ (d1 ++ t2))
+    ≡ ascii "P 4411 6610 10 0200 07040F00\n" ++ (ascii "D 0020 1911 20 0100 000000000000\n" ++ ascii "T 7731 2010 30 23 38900DB6C62300\n")
+unfolding p1 d1 t2 linesOf lineOf headHex payloadHex commandHex bytesHex deliveriesFrom recordOf commandIn payloadIn unframed withTopBits validationFrom streamLength kindOf choose headerLength frameWidth frameCount faultAt breach ruleAt headerRule frameRule checksumFrom
 example = refl
 
--- every digit: 0123456789ABCDEF
-digits : bytesHex (0x01 ∷ 0x23 ∷ 0x45 ∷ 0x67 ∷ 0x89 ∷ 0xAB ∷ 0xCD ∷ 0xEF ∷ []) ≡ 0x30 ∷ 0x31 ∷ 0x32 ∷ 0x33 ∷ 0x34 ∷ 0x35 ∷ 0x36 ∷ 0x37 ∷ 0x38 ∷ 0x39 ∷ 0x41 ∷ 0x42 ∷ 0x43 ∷ 0x44 ∷ 0x45 ∷ 0x46 ∷ []
-unfolding bytesHex choose
-digits = refl
-
--- a line with no payload, which ends after the command: X ABCD EF01 version command
+-- a line with no payload, which ends after the command
 abbrev without : ℕ → ℕ → List ℕ
 without version command =
     lineOf (record { header = record { version = version; destination = 0xABCD; source = 0xEF01; command = command }; payload = [] })
 
-abbrev addresses : List ℕ
-addresses = 0x20 ∷ 0x41 ∷ 0x42 ∷ 0x43 ∷ 0x44 ∷ 0x20 ∷ 0x45 ∷ 0x46 ∷ 0x30 ∷ 0x31 ∷ 0x20 ∷ []
-
 -- a packet's and a datagram's command takes four digits, a telegram's two
-packet-0023 : without 0x10 0x23 ≡ 0x50 ∷ (addresses ++ (0x31 ∷ 0x30 ∷ 0x20 ∷ 0x30 ∷ 0x30 ∷ 0x32 ∷ 0x33 ∷ 0x0A ∷ []))
+packet-0023 : without 0x10 0x23 ≡ ascii "P ABCD EF01 10 0023\n"
 unfolding lineOf headHex payloadHex commandHex kindOf choose
 packet-0023 = refl
 
-datagram-0023 : without 0x20 0x23 ≡ 0x44 ∷ (addresses ++ (0x32 ∷ 0x30 ∷ 0x20 ∷ 0x30 ∷ 0x30 ∷ 0x32 ∷ 0x33 ∷ 0x0A ∷ []))
+datagram-0023 : without 0x20 0x23 ≡ ascii "D ABCD EF01 20 0023\n"
 unfolding lineOf headHex payloadHex commandHex kindOf choose
 datagram-0023 = refl
 
-telegram-7F : without 0x31 0x7F ≡ 0x54 ∷ (addresses ++ (0x33 ∷ 0x31 ∷ 0x20 ∷ 0x37 ∷ 0x46 ∷ 0x0A ∷ []))
+telegram-7F : without 0x31 0x7F ≡ ascii "T ABCD EF01 31 7F\n"
 unfolding lineOf headHex payloadHex commandHex kindOf choose
 telegram-7F = refl
 
--- each answer, and the room that a line of 18 bytes needs
-written : answerOf (Written 9) ≡ record { number = 0; length = 9 }
-written = refl
-
-too-short : answerOf OutputTooShort ≡ record { number = 5; length = 0 }
-too-short = refl
-
+-- the room that a line of 18 bytes needs
 shortest : Record
 shortest = record { header = record { version = 0x30; destination = 0; source = 0; command = 0 }; payload = [] }
 

@@ -27,10 +27,7 @@ pub fn encode(header: Header, payload: &[u8], out: &mut [u8]) -> Written
     let kind = stream::kind_of(header.version);
     let number = fits::unwritable(kind, header, payload);
     if number != 0 {
-        return Written {
-            number,
-            length: 0,
-        };
+        return Written { number, length: 0 };
     }
     let frames = fits::frame_count(kind, header.command, payload.len());
     let size = fits::stream_length(kind, frames);

@@ -39,7 +39,8 @@ impl Line {
 
     // A byte as two digits.
     fn pair(self, byte: u8) -> Line {
-        self.put(digit(byte / 16)).put(digit(byte % 16))
+        let digits = text::hex_byte(byte);
+        self.put(digits[0]).put(digits[1])
     }
 
     pub fn say(self, word: &[u8]) -> Line {
@@ -93,7 +94,8 @@ impl Line {
 
     // V0 to V7.
     pub fn verdict(self, number: u8) -> Line {
-        self.put(b' ').put(b'V').put(digit(number))
+        let digits = text::hex_byte(number);
+        self.put(b' ').put(b'V').put(digits[1])
     }
 
     pub fn header(self, header: Header) -> Line {
@@ -112,14 +114,6 @@ impl Line {
         let line = self.put(b'\n');
         let text = line.text;
         io::write_all(1, first(&text, line.used));
-    }
-}
-
-fn digit(n: u8) -> u8 {
-    if n < 10 {
-        b'0' + n
-    } else {
-        b'A' + (n - 10) % 16
     }
 }
 

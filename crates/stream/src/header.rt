@@ -6,10 +6,10 @@ use crate::Kind;
 use crate::Validation;
 use crate::Verdict;
 use crate::at;
-use crate::high_bytes::first_high;
-use crate::high_bytes::stopped;
 use crate::frame::skip_right;
 use crate::frame::validate_from;
+use crate::high_bytes::first_high;
+use crate::high_bytes::stopped;
 use crate::telegram_frames;
 
 // The verdict on a header whose checksum stands at `place`.

@@ -3,9 +3,9 @@ ghost use mathlib.Core.Path.{_≡_};
 ghost use Rattle.stream.specs.Layout.{kindOf, telegramFrames, payloadLength};
 ghost use Rattle.stream.specs.Validation.{number, validationOf};
 
-mod high_bytes;
 mod frame;
 mod header;
+mod high_bytes;
 
 // The kinds of streams.
 pub enum Kind {

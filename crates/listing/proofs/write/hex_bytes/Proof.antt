@@ -1,14 +1,16 @@
 -- `write::hex_bytes` meets its contract: after i turns the digits of i bytes stand at the start. Assumes nothing.
-use mathlib.Core.Path.{_≡_, refl, ap, _∙_}
-use mathlib.Core.List.{List}
 use Prim.Native.Nat.{ℕ, _-_, _*_, _≤_, _<_}
+use borrow.Author.Needs.{needs}
 use native.Mathlib.Omega.{arith}
 use native.Mathlib.Numerals.{add-one}
+use mathlib.Core.Path.{_≡_, refl, ap, _∙_}
+use mathlib.Core.List.{List}
 use lib.ListN.{length, take, getD}
 use lib.Seq.{take-all, length-take-le}
 use Rattle.basics.specs.Bytes.{over}
-use Rattle.basics.proofs.Over.{lent}
-use Rattle.listing.specs.Line.{byteHex, bytesHex}
+use Rattle.basics.proofs.Over.{lent, copied}
+use Rattle.text.specs.Hex.{byteHex}
+use Rattle.listing.specs.Line.{bytesHex}
 use Rattle.listing.proofs.Lines.{length-bytesHex, bytesHex-take}
 use Rattle.listing.proofs.write.hex_bytes.Statement.{statement}
 use Rattle.listing.proofs.write.hex_bytes.Tie as tie
@@ -29,17 +31,23 @@ mul-at c = omega arith
 shared-slice-read-hex-byte : tie.Need-shared-slice-read-hex-byte Inv-loop μ-loop
 shared-slice-read-hex-byte c = omega arith
 
-sub-hex-byte : tie.Need-sub-hex-byte Inv-loop μ-loop
-sub-hex-byte c = omega arith
-
-part-hex-byte-start : tie.Need-part-hex-byte-start Inv-loop μ-loop
-part-hex-byte-start c = omega arith
-
-part-hex-byte-end : tie.Need-part-hex-byte-end Inv-loop μ-loop
-part-hex-byte-end c = omega arith
-
 hex-byte-requires : tie.Need-hex-byte-requires Inv-loop μ-loop
-hex-byte-requires c κs = omega arith
+hex-byte-requires c κs = search needs
+
+slice-aggregate-copy : tie.Need-slice-aggregate-copy Inv-loop μ-loop
+slice-aggregate-copy c = search needs
+
+sub-copy : tie.Need-sub-copy Inv-loop μ-loop
+sub-copy c = omega arith
+
+part-copy-start : tie.Need-part-copy-start Inv-loop μ-loop
+part-copy-start c = omega arith
+
+part-copy-end : tie.Need-part-copy-end Inv-loop μ-loop
+part-copy-end c = omega arith
+
+copy-requires : tie.Need-copy-requires Inv-loop μ-loop
+copy-requires c κs = omega arith
 
 add-i : tie.Need-add-i Inv-loop μ-loop
 add-i c = omega arith
@@ -49,16 +57,19 @@ loop-less c = omega arith
 
 loop-again : tie.Need-loop-again Inv-loop μ-loop
 loop-again c =
-    let args = c .before .before .before .before .before .before .before .before .before .args in
-    let loop = c .before .before .before .before .before .before .loop in
+    let copy = c .before .before in
+    let call = copy .before .before .before in
+    let at-loop = call .before .before .before in
+    let args = at-loop .before .before .before .args in
+    let loop = at-loop .loop in
     let bytes = args .bytes .now in
     let inside : loop .i < length bytes = omega arith in
     let done = bytesHex (take (loop .i) bytes) in
     let passed : length done ≡ 2 * loop .i = length-bytesHex (take (loop .i) bytes) ∙ rw (length-take-le (loop .i) bytes (omega arith)) in (
       omega arith,
       rw (add-one, bytesHex-take bytes (loop .i) inside)
-          (lent done (byteHex (getD bytes (loop .i) 0)) (args .out .now) (loop .out) (c .before .before .hex-byte .last .1 .0) (2 * loop .i) passed
-          (loop .inv .1) (c .before .before .hex-byte .ensures)),
+          (lent done (byteHex (getD bytes (loop .i) 0)) (args .out .now) (loop .out) (copy .copy .last .1 .0) (2 * loop .i) passed
+          (loop .inv .1) (copied _ _ _ _ (call .hex-byte .ensures) (copy .copy .ensures .1))),
       omega arith,
     )
 
@@ -81,10 +92,12 @@ hex-bytes-spec =
     loop-holds
     mul-at
     shared-slice-read-hex-byte
-    sub-hex-byte
-    part-hex-byte-start
-    part-hex-byte-end
     hex-byte-requires
+    slice-aggregate-copy
+    sub-copy
+    part-copy-start
+    part-copy-end
+    copy-requires
     add-i
     loop-less
     loop-again

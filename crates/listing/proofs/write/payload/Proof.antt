@@ -1,13 +1,14 @@
--- `write::payload` meets its contract: the part that is lent stands behind what is written. Assumes nothing.
+-- `write::payload` meets its contract. Assumes nothing.
 use Prim.Native.Nat.{ℕ, _+_, _*_, _≤_}
-use mathlib.Core.Path.{_≡_, refl, ap, sym, _∙_}
-use mathlib.Core.List.{List, [], _∷_}
 use native.Mathlib.Omega.{arith}
+use mathlib.Core.Path.{_≡_, refl, ap, sym, _∙_}
+use mathlib.Core.List.{List, []}
 use lib.ListN.{length}
 use Rattle.basics.specs.Bytes.{over}
 use Rattle.basics.proofs.Over.{lent}
 use Rattle.listing.specs.Line.{bytesHex, spaced, payloadHex}
-use Rattle.listing.proofs.Lines.{payload-none, payload-some, length-bytesHex}
+use Rattle.listing.proofs.Lines.{length-bytesHex, payload-none, payload-some}
+use Rattle.text.specs.Ascii.{ascii}
 use borrow.Author.Needs.{needs}
 use Rattle.listing.proofs.write.payload.Statement.{statement}
 use Rattle.listing.proofs.write.payload.Tie as tie
@@ -27,20 +28,23 @@ room c =
 returns : tie.Need-returns
 returns c = rw (none c)
 
-byte-requires : tie.Need-byte-requires
-byte-requires c κs = omega (arith, room (c .before))
+slice-aggregate-copy : tie.Need-slice-aggregate-copy
+slice-aggregate-copy c = search needs
+
+copy-requires : tie.Need-copy-requires
+copy-requires c κs = omega (arith, room (c .before .before))
 
 sub-hex-bytes : tie.Need-sub-hex-bytes
-sub-hex-bytes c = omega (arith, room (c .before .before .before .before))
+sub-hex-bytes c = omega (arith, room (c .before .before .before .before .before))
 
 part-hex-bytes-start : tie.Need-part-hex-bytes-start
-part-hex-bytes-start c = omega (arith, room (c .before .before .before .before))
+part-hex-bytes-start c = omega (arith, room (c .before .before .before .before .before))
 
 part-hex-bytes-end : tie.Need-part-hex-bytes-end
 part-hex-bytes-end c = search needs
 
 hex-bytes-requires : tie.Need-hex-bytes-requires
-hex-bytes-requires c κs = omega (arith, room (c .before .before .before .before .before))
+hex-bytes-requires c κs = omega (arith, room (c .before .before .before .before .before .before))
 
 same-length : tie.Need-same-length
 same-length c = search needs
@@ -49,10 +53,10 @@ returns-2 : tie.Need-returns-2
 returns-2 c =
     let second = c .before .before in
     let first = second .before .before .before .before in
-    let test = first .before .before in
+    let test = first .before .before .before in
     let args = test .before .before .before .args in
     let out = args .out .now in
-    lent (0x20 ∷ []) (bytesHex (args .payload .now)) out _ _ 1 refl (first .byte .ensures) (second .hex-bytes .ensures)
+    lent (ascii " ") (bytesHex (args .payload .now)) out _ _ 1 refl (first .copy .ensures .1) (second .hex-bytes .ensures)
     ∙ ap (λ (l : List ℕ). over l out) (sym (some test))
 
 pub payload-spec : {M : Type 1} → statement M
@@ -60,7 +64,8 @@ payload-spec =
     tie.close
     (tie.spec
     returns
-    byte-requires
+    slice-aggregate-copy
+    copy-requires
     sub-hex-bytes
     part-hex-bytes-start
     part-hex-bytes-end
