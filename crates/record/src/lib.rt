@@ -1,6 +1,8 @@
 // A record: what one stream says, and how it is written.
 ghost use mathlib.Core.Path.{_≡_};
+ghost use Prim.Native.Nat.{_+_, _*_};
 ghost use lib.ListN.{length};
+ghost use Rattle.basics.specs.Words.{wordAt};
 ghost use Rattle.record.specs.Encode.{encodingOf, outputAfter};
 ghost use Rattle.record.specs.Value.{valueOf};
 
@@ -31,26 +33,40 @@ pub fn encode(header: Header, payload: &[u8], out: &mut [u8]) -> Written
     }
     let frames = fits::frame_count(kind, header.command, payload.len());
     let size = fits::stream_length(kind, frames);
-    if out.len() < size {
+    if size <= out.len() {
+        write::stream(kind, header, payload, out);
         return Written {
-            number: 5,
-            length: 0,
+            number: 0,
+            length: size,
         };
     }
-    write::stream(kind, header, payload, out);
     Written {
-        number: 0,
-        length: size,
+        number: 5,
+        length: 0,
     }
+}
+
+// Two bytes, low byte first.
+fn word(low: u8, high: u8) -> u16
+    ensures { λ r. ⌜ r ≡ low + 256 * high ⌝ }
+{
+    (low as u16) + 256 * (high as u16)
+}
+
+// The last four bytes of a datagram's payload, low byte first.
+fn last_four(payload: [u8; 6]) -> u32
+    ensures { λ r. ⌜ r ≡ wordAt payload 2 + 65536 * wordAt payload 4 ⌝ }
+{
+    let low = word(payload[2], payload[3]);
+    let high = word(payload[4], payload[5]);
+    (low as u32) + 65536 * (high as u32)
 }
 
 // A datagram's value, the last four bytes of its payload, as a signed number.
 pub fn value(payload: [u8; 6]) -> i32
     ensures { λ r. ⌜ r ≡ valueOf payload ⌝ }
 {
-    let low = (payload[2] as u32) + 256 * (payload[3] as u32);
-    let high = (payload[4] as u32) + 256 * (payload[5] as u32);
-    let word = low + 65536 * high;
+    let word = last_four(payload);
     if word < 0x8000_0000 {
         word as i32
     } else {

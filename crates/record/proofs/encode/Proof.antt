@@ -65,27 +65,27 @@ stream-length-requires c κs =
     let k = c .before .before .before in
     rw (c .frame-count .ensures) (few-frames (kind k) (given k .header .command) (length (given k .payload)) (lines (c .before) .payload))
 
-returns-2 : tie.Need-returns-2
-returns-2 c =
-    let sized = c .before in
-    let k = kindAt sized in
-    too-short (kind k) (given k) (out k) (k .kind-of .ensures) (none (sized .before .before)) (rw (size sized) (c .if2 .taken))
-
 stream-requires : tie.Need-stream-requires
 stream-requires c κs =
     let sized = c .before .before in
     let p = lines (sized .before .before) in
-    record { known = p .known; low = p .command; sized = p .payload; held = rw (← said sized) (c .before .if2 .left) }
+    record { known = p .known; low = p .command; sized = p .payload; held = rw (← said sized) (c .before .if2 .taken) }
 
 same-length : tie.Need-same-length
 same-length c = search needs
 
+returns-2 : tie.Need-returns-2
+returns-2 c =
+    let room = c .before .before .before .before in
+    let sized = room .before in
+    let k = kindAt sized in
+    written (kind k) (given k) (out k) (k .kind-of .ensures) (none (sized .before .before)) (sized .stream-length .result) _ (size sized) (room .if2 .taken) (c .before .before .stream .ensures)
+
 returns-3 : tie.Need-returns-3
 returns-3 c =
-    let six = c .before .before .before .before in
-    let sized = six .before in
+    let sized = c .before in
     let k = kindAt sized in
-    written (kind k) (given k) (out k) (k .kind-of .ensures) (none (sized .before .before)) (sized .stream-length .result) _ (size sized) (six .if2 .left) (c .before .before .stream .ensures)
+    too-short (kind k) (given k) (out k) (k .kind-of .ensures) (none (sized .before .before)) (rw (size sized) (c .if2 .left))
 
 pub encode-spec : {M : Type 1} → statement M
 encode-spec =
@@ -96,7 +96,7 @@ encode-spec =
     returns
     frame-count-requires
     stream-length-requires
-    returns-2
     stream-requires
     same-length
+    returns-2
     returns-3)
