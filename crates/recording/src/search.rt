@@ -18,14 +18,14 @@ pub enum Search {
 fn next_sync(input: &[u8], start: usize) -> usize
     ensures { λ r. ⌜ NextSync (now (input .entry)) start r ⌝ }
 {
-    let mut at = start;
-    while at < input.len() {
-        if input[at] == 0xAA {
-            return at;
+    let mut place = start;
+    while place < input.len() {
+        if input[place] == 0xAA {
+            return place;
         }
-        at += 1;
+        place += 1;
     }
-    at
+    place
 }
 
 // The first place from `start` on at which the stretch to the input's end begins with a whole stream.

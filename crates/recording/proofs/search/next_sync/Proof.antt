@@ -9,10 +9,10 @@ use Rattle.recording.proofs.search.next_sync.Statement.{statement}
 use Rattle.recording.proofs.search.next_sync.Tie as tie
 
 abbrev Inv-loop : tie.InvT-loop
-Inv-loop input start at₀ at = (start ≤ at) × ((k : ℕ) → k < at → start ≤ k → k < length input → getD input k 0 ≡ 0xAA → ⊥)
+Inv-loop input start place₀ place = (start ≤ at) × ((k : ℕ) → k < at → start ≤ k → k < length input → getD input k 0 ≡ 0xAA → ⊥)
 
 abbrev μ-loop : tie.MeasureT-loop
-μ-loop input start at₀ at = length input - at
+μ-loop input start place₀ place = length input - at
 
 loop-holds : tie.Need-loop-holds Inv-loop μ-loop
 loop-holds c = (omega arith, λ k below above inside e. omega arith)
@@ -23,8 +23,8 @@ shared-slice-read-if1 c = search needs
 returns : tie.Need-returns Inv-loop μ-loop
 returns c = record { after = omega arith; here = λ inside. c .if1 .taken; passed = c .before .before .before .loop .inv .1 }
 
-add-at : tie.Need-add-at Inv-loop μ-loop
-add-at c = search needs
+add-place : tie.Need-add-place Inv-loop μ-loop
+add-place c = search needs
 
 loop-less : tie.Need-loop-less Inv-loop μ-loop
 loop-less c = search needs
@@ -44,7 +44,7 @@ next-sync-spec =
     loop-holds
     shared-slice-read-if1
     returns
-    add-at
+    add-place
     loop-less
     loop-again
     returns-2)
