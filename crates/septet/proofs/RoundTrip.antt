@@ -1,13 +1,14 @@
--- What `extract` and `inject` answer when each is handed the other's answer. Assumes nothing.
-use Prim.Native.Nat.{ℕ, _<_, _≤_, _^_}
+-- When `extract` and `inject` refuse, and what each answers when it is handed the other's answer. Assumes nothing.
+use Prim.Native.Nat.{ℕ, _/_, _^_, _<_, _≤_}
 use native.Mathlib.Omega.{arith}
 use mathlib.Core.Bool.{Bool, true, false}
 use mathlib.Core.Path.{_≡_, refl, _∙_}
+use mathlib.Core.Logic.{_↔_}
 use mathlib.Core.List.{List, [], _∷_}
 use lib.Dec.{leb, ltb}
 use lib.ListN.{length, take}
 use lib.Seq.{length-take-le, take-at}
-use borrow.Author.Tests.{ltb-false, leb-false, eqb-true, not-false, lt-leb, eq-eqb}
+use borrow.Author.Tests.{le-ltb, ltb-false, leb-false, eqb-true, not-false, lt-leb, eq-eqb}
 use Rattle.basics.specs.Choice.{choose}
 use Rattle.basics.specs.Bytes.{AllBelow}
 use Rattle.basics.proofs.Bytes.{all-take}
@@ -33,6 +34,24 @@ unfolding anyHigh
 below-anyHigh [] e = tt
 below-anyHigh (x ∷ xs) e = let h = neither (leb 0x80 x) (anyHigh xs) e in (leb-false 0x80 x (h .0), below-anyHigh xs (h .1))
 
+-- document 01's refusal 7, exactly: taking out is refused only for the length
+pub extract-exactly : (bytes : List ℕ) (n : ℕ) → (extracted bytes n .number ≡ 0) ↔ (n ≤ 7)
+unfolding choose
+extract-exactly bytes n = ((λ e. ltb-false 7 n (passed (ltb 7 n) _ e)), (λ most. simp (le-ltb 7 n most)))
+
+-- and putting back also for a used byte or the septet of 0x80 or more, and for a septet bit at or above the length
+pub inject-exactly : (bytes : List ℕ) (n septet : ℕ)
+    → (injected bytes n septet .number ≡ 0) ↔ ((n ≤ 7) × AllBelow 0x80 (take n bytes) × (septet < 0x80) × (septet / 2 ^ n ≡ 0))
+unfolding choose
+inject-exactly bytes n septet = (
+  (λ e.
+      let long = neither (ltb 7 n) _ (passed (unfit bytes n septet) _ e) in
+      let high = neither (anyHigh (take n bytes)) _ (long .1) in
+      let rest = neither (leb 0x80 septet) _ (high .1) in
+      (ltb-false 7 n (long .0), below-anyHigh (take n bytes) (high .0), leb-false 0x80 septet (rest .0), eqb-true _ _ (not-false _ (rest .1)))),
+  (λ (most, low, small, unused). simp (le-ltb 7 n most, anyHigh-below (take n bytes) low, lt-leb 0x80 septet small, eq-eqb (septet / 2 ^ n) 0 unused)),
+)
+
 -- document 01: "Taking top bits out and then putting them back gives the used bytes again"
 pub extract-inject : (bytes : List ℕ) (n : ℕ) → length bytes ≡ 7 → AllBelow 256 bytes → extracted bytes n .number ≡ 0
     → injected (extracted bytes n .bytes) (extracted bytes n .length) (extracted bytes n .septet)
@@ -40,14 +59,13 @@ pub extract-inject : (bytes : List ℕ) (n : ℕ) → length bytes ≡ 7 → All
 unfolding choose
 extract-inject bytes n seven a e =
     let block = take n bytes in
-    let fits = passed (ltb 7 n) _ e in
-    let most : n ≤ 7 = ltb-false 7 n fits in
+    let most = extract-exactly bytes n .0 e in
     let k : length block ≡ n = length-take-le n bytes (omega arith) in
     let bound : AllBelow 256 block = all-take 256 n bytes a in
     let small : septetOf block < 2 ^ n = rw k at (septetOf-below block bound) in
     let low : take n (padded n (lowBits block)) ≡ lowBits block = take-at (lowBits block) _ n (length-lowBits block ∙ k) in
     simp (
-      fits,
+      le-ltb 7 n most,
       low,
       anyHigh-below (lowBits block) (lowBits-below block),
       lt-leb 0x80 (septetOf block) (septet-below n (septetOf block) most small),
@@ -62,14 +80,8 @@ pub inject-extract : (bytes : List ℕ) (n septet : ℕ) → length bytes ≡ 7 
 unfolding choose
 inject-extract bytes n septet seven e =
     let block = take n bytes in
-    let fit = passed (unfit bytes n septet) _ e in
-    let fits = neither (ltb 7 n) _ fit in
-    let low = neither (anyHigh block) _ (fits .1) in
-    let none = neither (leb 0x80 septet) _ (low .1) in
-    let most : n ≤ 7 = ltb-false 7 n (fits .0) in
+    let (most, bound, small, unused) = inject-exactly bytes n septet .0 e in
     let k : length block ≡ n = length-take-le n bytes (omega arith) in
-    let unused : unusedBits n septet ≡ 0 = eqb-true _ _ (not-false _ (none .1)) in
-    let bound : AllBelow 128 block = below-anyHigh block (low .0) in
     let used : septet < 2 ^ length block = rw k (unused-below n septet unused) in
     let full : take n (padded n (withTopBits septet block)) ≡ withTopBits septet block = take-at (withTopBits septet block) _ n (length-withTopBits septet block ∙ k) in
-    rw fit (simp (fits .0, full, lowBits-withTopBits septet block bound, septetOf-withTopBits-used septet block bound used))
+    rw (passed (unfit bytes n septet) _ e) (simp (le-ltb 7 n most, full, lowBits-withTopBits septet block bound, septetOf-withTopBits-used septet block bound used))
