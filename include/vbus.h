@@ -5,8 +5,9 @@
  * Memory. No heap, no globals, nothing kept between calls: every function may be called from several threads and from
  * signal handlers at once. No function keeps an unfinished stream between calls: where bytes arrive one by one, the
  * caller gathers them. The archive needs nothing from outside.
- * Stack: at most 256 bytes. tests/stack holds every function to that, by painting: the stack is filled with a pattern
- * before a call, and the lowest byte touched counts. docs/BENCHMARKS.md has the speeds.
+ * Stack: at most 256 bytes, but up to 6,400 for the four section functions, which call themselves once a section:
+ * 48 bytes each, 127 sections at most. tests/stack holds both limits. It measures by painting: the stack is filled
+ * with a pattern before a call, and the lowest byte touched counts. docs/BENCHMARKS.md has the speeds.
  *
  * Pointers. A pointer comes with the number of bytes behind it, and nothing beyond them is read or written.
  *  - With a count above 0 the pointer must not be NULL. With count 0 it isn't read or written, and NULL is fine.

@@ -9,10 +9,10 @@ use Rattle.recording.proofs.search.next_sync.Statement.{statement}
 use Rattle.recording.proofs.search.next_sync.Tie as tie
 
 abbrev Inv-loop : tie.InvT-loop
-Inv-loop input start place₀ place = (start ≤ at) × ((k : ℕ) → k < at → start ≤ k → k < length input → getD input k 0 ≡ 0xAA → ⊥)
+Inv-loop input start place₀ place = (start ≤ place) × ((k : ℕ) → k < place → start ≤ k → k < length input → getD input k 0 ≡ 0xAA → ⊥)
 
 abbrev μ-loop : tie.MeasureT-loop
-μ-loop input start place₀ place = length input - at
+μ-loop input start place₀ place = length input - place
 
 loop-holds : tie.Need-loop-holds Inv-loop μ-loop
 loop-holds c = (omega arith, λ k below above inside e. omega arith)
