@@ -39,12 +39,13 @@ pub fn first_whole(input: &[u8], start: usize) -> Search
             break Search::Nothing;
         }
         let validation = stream::validate(&input[at..]);
+        let offset = validation.offset;
         if validation.verdict == 0 {
             break Search::At(Span {
                 place: at,
-                length: validation.offset,
+                length: offset,
             });
         }
-        at += validation.offset; // to the fault: no byte before it is a sync byte, but it may be one itself
+        at += offset; // to the fault: no byte before it is a sync byte, but it may be one itself
     }
 }

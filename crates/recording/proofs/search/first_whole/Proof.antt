@@ -53,25 +53,25 @@ validate-requires c κs = search needs
 
 add-at : tie.Need-add-at Inv-loop μ-loop
 add-at c =
-    let sync = c .before .before .before .before .before .before in
+    let sync = c .before .before .before .before .before in
     let s = sync .before .before .before .args .input .now in
-    omega (arith, fault-moves s (sync .next-sync .result) _ (omega arith) (sync .next-sync .ensures .here (omega arith)) (rw part at (c .before .before .before .validate .ensures)))
+    omega (arith, fault-moves s (sync .next-sync .result) _ (omega arith) (sync .next-sync .ensures .here (omega arith)) (rw part at (c .before .before .validate .ensures)))
 
 loop-less : tie.Need-loop-less Inv-loop μ-loop
 loop-less c =
-    let sync = c .before .before .before .before .before .before in
+    let sync = c .before .before .before .before .before in
     let s = sync .before .before .before .args .input .now in
-    let moved = fault-moves s (sync .next-sync .result) _ (omega arith) (sync .next-sync .ensures .here (omega arith)) (rw part at (c .before .before .before .validate .ensures)) in
+    let moved = fault-moves s (sync .next-sync .result) _ (omega arith) (sync .next-sync .ensures .here (omega arith)) (rw part at (c .before .before .validate .ensures)) in
     omega (arith, moved, sync .next-sync .ensures .after)
 
 loop-again : tie.Need-loop-again Inv-loop μ-loop
 loop-again c =
-    let sync = c .before .before .before .before .before .before in
+    let sync = c .before .before .before .before .before in
     let s = sync .before .before .before .args .input .now in
     let r = sync .next-sync .result in
     let at = after-sync s (sync .before .loop .at) r (sync .next-sync .ensures) in
-    let answer = rw part at (c .before .before .before .validate .ensures) in
-    let on = after-fault s r (λ w. c .before .if2 .left (ap (λ (a : Validation). a .verdict) answer ∙ w)) in
+    let answer = rw part at (c .before .before .validate .ensures) in
+    let on = after-fault s r (λ w. c .if2 .left (ap (λ (a : Validation). a .verdict) answer ∙ w)) in
     ap (λ (a : Validation). deliveriesAfter s (r + a .offset)) answer ∙ sym (at ∙ on) ∙ sync .before .loop .inv
 
 returns : tie.Need-returns Inv-loop μ-loop
