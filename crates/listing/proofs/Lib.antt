@@ -1,2 +1,4 @@
 pub mod Lines
+pub mod Room
+pub mod Following
 pub mod Samples

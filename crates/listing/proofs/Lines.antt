@@ -8,13 +8,11 @@ use mathlib.Core.List.{List, [], _∷_, _++_, append-assoc}
 use lib.ListN.{length, getD, take, length-append}
 use Rattle.basics.specs.Choice.{choose}
 use Rattle.basics.proofs.Choice.{choose-by}
-use Rattle.stream.specs.Layout.{kindOf, payloadLength}
+use Rattle.stream.specs.Layout.{kindOf}
 use Rattle.stream.specs.declared.Kind.{Kind}
 use Rattle.stream.specs.declared.Kind.the-variants.{Packet, Datagram, Telegram, Unknown}
 use Rattle.record.specs.declared.Header.{Header}
-use Rattle.record.specs.Record.{Record, framesOf}
-use Rattle.record.specs.Encode.{unwritable, Writable}
-use Rattle.record.proofs.Carried.{Carried, carried-of}
+use Rattle.record.specs.Record.{Record}
 use Rattle.text.specs.Ascii.{ascii}
 use Rattle.text.specs.Hex.{byteHex, wordHex}
 use Rattle.listing.specs.Line.{bytesHex, isByte, commandHex, spaced, payloadHex, headHex, lineOf}
@@ -43,10 +41,14 @@ unfolding payloadHex
 payload-some [] h = absurd (omega arith)
 payload-some (byte ∷ rest) h = refl
 
-pub length-payloadHex : (l : List ℕ) → (2 * length l ≤ length (payloadHex l)) × (length (payloadHex l) ≤ 2 * length l + 1)
+-- two digits for each byte and, where there are any, a space
+pub length-payloadHex : (l : List ℕ)
+    → (2 * length l ≤ length (payloadHex l)) × (length (payloadHex l) ≤ 2 * length l + 1) × (length (payloadHex l) ≤ 3 * length l)
 unfolding payloadHex
-length-payloadHex [] = (omega arith, omega arith)
-length-payloadHex (byte ∷ rest) = (omega (arith, length-bytesHex (byte ∷ rest)), omega (arith, length-bytesHex (byte ∷ rest)))
+length-payloadHex [] = (omega arith, omega arith, omega arith)
+length-payloadHex (byte ∷ rest) =
+    let digits = length-bytesHex (byte ∷ rest) in
+    (omega (arith, digits), omega (arith, digits), omega (arith, digits))
 
 -- ── a command's digits
 
@@ -89,24 +91,3 @@ module _ (K : Kind) (r : Record) (told : K ≡ kindOf (r .header .version)) wher
 -- two digits for each payload byte, and more
 pub line-longer : (r : Record) → 2 * length (r .payload) < length (lineOf r)
 line-longer r = omega (arith, length-line (kindOf (r .header .version)) r refl, length-payloadHex (r .payload))
-
-carried-most : (K : Kind) (r : Record) → Carried K r → length (r .payload) ≤ 508
-unfolding payloadLength framesOf
-carried-most Packet r carried = omega (arith, carried .sized, carried .few)
-carried-most Datagram r carried = omega (arith, carried .sized)
-carried-most Telegram r carried = omega (arith, carried .sized)
-carried-most Unknown r carried = omega (arith, carried .sized)
-
--- 508 bytes hold the payload, and 1037 the line, of every record that the wire can carry
-module _ (r : Record) (writable : Writable r) where
-  pub payload-most : length (r .payload) ≤ 508
-  unfolding unwritable
-  payload-most =
-      let K = kindOf (r .header .version) in
-      carried-most K r (carried-of K r (writable .range) (writable .carried))
-
-  pub line-most : length (lineOf r) ≤ 1037
-  line-most =
-      let h = r .header in
-      let K = kindOf (h .version) in
-      omega (arith, payload-most, length-line K r refl, length-head K h, length-command K (h .command), length-payloadHex (r .payload))

@@ -2,7 +2,7 @@
 use Prim.Native.Nat.{ℕ}
 use mathlib.Core.Path.{_≡_, refl}
 use mathlib.Core.List.{List, [], _∷_, _++_}
-use lib.ListN.{replicate}
+use lib.ListN.{length, replicate}
 use Rattle.basics.specs.Choice.{choose}
 use Rattle.basics.specs.Output.{roomRefusal}
 use Rattle.checksum.specs.Checksum.{checksumFrom}
@@ -12,7 +12,8 @@ use Rattle.stream.specs.Validation.{frameRule, headerRule, ruleAt, breach, faul
 use Rattle.record.specs.Record.{Record, recordOf, commandIn, payloadIn, unframed}
 use Rattle.recording.specs.Recording.{deliveriesFrom}
 use Rattle.text.specs.Ascii.{ascii}
-use Rattle.listing.specs.Line.{bytesHex, commandHex, payloadHex, headHex, lineOf, linesOf, listingOf, listedOf, outputAfter}
+use Rattle.listing.specs.Line.{bytesHex, commandHex, payloadHex, headHex, lineOf, listedOf, outputAfter}
+use Rattle.listing.specs.Listing.{linesOf, listingOf, outputOf, shownOf}
 
 -- AA 11 44 10 66 10 00 02 01 21 07 04 0F 00 00 65
 p1 : List ℕ
@@ -27,10 +28,28 @@ t2 : List ℕ
 t2 = 0xAA ∷ 0x31 ∷ 0x77 ∷ 0x10 ∷ 0x20 ∷ 0x30 ∷ 0x23 ∷ 0x54 ∷ 0x38 ∷ 0x10 ∷ 0x0D ∷ 0x36 ∷ 0x46 ∷ 0x23 ∷ 0x00 ∷ 0x1A ∷ 0x71 ∷ []
 
 -- fed P1, D1, T2 one after the other, the whole output is these three lines
-example : listingOf (p1 ++ (d1 ++ t2))
+example : outputOf (p1 ++ (d1 ++ t2))
     ≡ ascii "P 4411 6610 10 0200 07040F00\n" ++ (ascii "D 0020 1911 20 0100 000000000000\n" ++ ascii "T 7731 2010 30 23 38900DB6C62300\n")
 unfolding p1 d1 t2 linesOf lineOf headHex payloadHex commandHex bytesHex deliveriesFrom recordOf commandIn payloadIn unframed withTopBits validationFrom streamLength kindOf choose headerLength frameWidth frameCount faultAt breach ruleAt headerRule frameRule checksumFrom
 example = refl
+
+-- 65,536 bytes are listed, and one more is too long
+most : (s : List ℕ) → length s ≡ 65536 → outputOf s ≡ listingOf s
+unfolding choose
+most s sized = rw sized
+
+one-more : (s : List ℕ) → length s ≡ 65537 → outputOf s ≡ ascii "too long\n"
+unfolding choose
+one-more s sized = rw sized
+
+-- a buffer of 147,456 bytes is handed back as far as it is written, and a shorter one not at all
+room-enough : (s : List ℕ) → shownOf s 147456 ≡ outputOf s
+unfolding choose
+room-enough s = refl
+
+room-less : (s : List ℕ) → shownOf s 147455 ≡ []
+unfolding choose
+room-less s = refl
 
 -- a line with no payload, which ends after the command
 abbrev without : ℕ → ℕ → List ℕ

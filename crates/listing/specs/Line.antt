@@ -1,10 +1,9 @@
--- The lines of a listing (document 01: the lister), as bytes.
+-- The line of a record (document 01: the lister), as bytes.
 use Prim.Native.Nat.{ℕ}
 use Prim.Native.Char.{code}
 use mathlib.Core.Bool.{Bool, false}
 use mathlib.Core.List.{List, [], _∷_, _++_}
 use lib.Dec.{ltb}
-use lib.ListN.{length}
 use Rattle.basics.specs.Choice.{choose}
 use Rattle.basics.specs.declared.Written.{Written}
 use Rattle.basics.specs.Output.{answeredFor, outputFor}
@@ -15,7 +14,6 @@ use Rattle.stream.specs.declared.Kind.{Kind}
 use Rattle.stream.specs.declared.Kind.the-variants.{Packet, Datagram, Telegram, Unknown}
 use Rattle.record.specs.declared.Header.{Header}
 use Rattle.record.specs.Record.{Record}
-use Rattle.recording.specs.Recording.{records}
 
 unfoldable pub bytesHex : List ℕ → List ℕ
 bytesHex [] = []
@@ -58,15 +56,6 @@ headHex K h = fieldsHex K h ++ spaced (commandHex K (h .command))
 -- then the payload, and a newline
 unfoldable pub lineOf : Record → List ℕ
 lineOf r = headHex (kindOf (r .header .version)) (r .header) ++ (payloadHex (r .payload) ++ ascii "\n")
-
--- one line for each record and no heading line
-unfoldable pub linesOf : List Record → List ℕ
-linesOf [] = []
-linesOf (r ∷ rest) = lineOf r ++ linesOf rest
-
--- what the lister prints for a recording of at most 65,536 bytes
-abbrev pub listingOf : List ℕ → List ℕ
-listingOf s = linesOf (records s)
 
 -- what is answered for an output of the given room; 5: it is shorter than the line
 abbrev pub listedOf : Record → ℕ → Written

@@ -1,12 +1,21 @@
-// A record as a line of text.
+// A recording as text: a line for each record.
 ghost use mathlib.Core.Path.{_≡_};
 ghost use lib.ListN.{length};
+ghost use Rattle.basics.specs.Bytes.{over};
 ghost use Rattle.listing.specs.Line.{listedOf, outputAfter};
+ghost use Rattle.listing.specs.Listing.{shownOf};
 
+mod all;
 mod write;
 
 use basics::Written;
 use record::Header;
+
+// The most bytes of a recording that are listed.
+pub const MOST: usize = 65536;
+
+// Room for every output: a line has at most 9/4 as many bytes as its record's stream (law `line-room`).
+pub const ROOM: usize = 147456;
 
 // 5: the output is shorter than the line.
 const TOO_SHORT: Written = Written {
@@ -36,4 +45,28 @@ pub fn line(header: Header, payload: &[u8], out: &mut [u8]) -> Written
         number: 0,
         length: end + 1,
     }
+}
+
+// Writes what the lister prints to the start of `out`, and returns how many bytes that is.
+fn list(input: &[u8], out: &mut [u8]) -> usize
+    ensures { λ r. ⌜ r ≡ length (shownOf (now (input .entry)) (length (now (out .entry)))) ⌝ }
+    ensures { λ r. ⌜ now (out .exit) ≡ over (shownOf (now (input .entry)) (length (now (out .entry)))) (now (out .entry)) ⌝ }
+{
+    if out.len() < ROOM {
+        return 0;
+    }
+    if input.len() > MOST {
+        return bytes::copy(b"too long\n", out);
+    }
+    all::lines(input, out)
+}
+
+// What the lister prints for a recording: the bytes, written to the start of `out` and handed back.
+// None are if `out` has fewer than ROOM bytes. `out` is lent for as long as the result is looked at.
+pub fn output<'a>(input: &[u8], out: &'a mut [u8]) -> &'a [u8]
+    ensures { λ r. ⌜ now r ≡ shownOf (now (input .entry)) (length (now (out .entry))) ⌝ }
+{
+    let length = list(input, out);
+    let all = &out[..];
+    &all[0..length]
 }

@@ -1,0 +1,57 @@
+-- `list` meets its contract: the room suffices for every listing. Assumes nothing.
+use native.Mathlib.Omega.{arith}
+use mathlib.Core.Path.{refl}
+use borrow.Author.Tests.{lt-ltb, le-ltb}
+use Rattle.basics.specs.Choice.{choose}
+use Rattle.listing.proofs.Room.{listing-room}
+use borrow.Author.Needs.{needs}
+use Rattle.listing.proofs.list.Statement.{statement}
+use Rattle.listing.proofs.list.Tie as tie
+
+returns : tie.Need-returns
+unfolding choose
+returns c = rw (lt-ltb _ _ (c .if1 .taken)) (refl, refl)
+
+slice-aggregate-copy : tie.Need-slice-aggregate-copy
+slice-aggregate-copy c = search needs
+
+copy-requires : tie.Need-copy-requires
+copy-requires c κs = search needs
+
+same-length : tie.Need-same-length
+same-length c = search needs
+
+returns-2 : tie.Need-returns-2
+unfolding choose
+returns-2 c =
+    let copy = c .before .before in
+    let test = copy .before .before .before in
+    rw (le-ltb _ _ (test .before .if1 .left), lt-ltb _ _ (test .if2 .taken)) (copy .copy .ensures)
+
+lines-requires : tie.Need-lines-requires
+lines-requires c κs =
+    let args = c .before .before .before .before .before .args in
+    omega (arith, listing-room (args .input .now))
+
+same-length-2 : tie.Need-same-length-2
+same-length-2 c = search needs
+
+returns-3 : tie.Need-returns-3
+unfolding choose
+returns-3 c =
+    let lines = c .before .before in
+    let test = lines .before .before in
+    rw (le-ltb _ _ (test .before .if1 .left), le-ltb _ _ (test .if2 .left)) (lines .lines .ensures)
+
+pub list-spec : {M : Type 1} → statement M
+list-spec =
+    tie.close
+    (tie.spec
+    returns
+    slice-aggregate-copy
+    copy-requires
+    same-length
+    returns-2
+    lines-requires
+    same-length-2
+    returns-3)
