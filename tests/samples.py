@@ -1,20 +1,31 @@
 #!/usr/bin/env python3
-"""usage: samples.py [DOCUMENT-000] > crates/samples/stdout
+"""usage: samples.py FOLDER [DOCUMENT-000]
 
-The output that the program `samples` must give, by rules.py, a reading of document 01 that shares nothing with the library. What the papers
-say of a sample is asserted. With document 000's text, the examples' bytes are held to the tables that it prints.
+Writes FOLDER/stdin, the questions that the program `samples` is asked, and FOLDER/stdout, the line that it must give for each
+(crates/samples has both). A sample is one call here. The lines come from rules.py, a reading of document 01 that shares nothing with the
+library. What the papers say of a sample is asserted. With document 000's text, the examples' bytes are held to the tables that it prints.
 """
+import os
 import re
+import struct
 import sys
 
 sys.dont_write_bytecode = True
 import rules
 
+QUESTIONS = []
 LINES = []
 
 
-def line(*fields):
-    LINES.append(" ".join(str(f) for f in fields if f != ""))
+def ask(letter, name, data, *fields, first=0, second=0, header=(0, 0, 0, 0)):
+    """A question, and the line that answers it: its name, and the fields that are not empty.
+
+    A question is a head of 15 bytes, the name and the data. The head: the letter, the length of the name, and in two bytes each, low byte
+    first, the length of the data, two numbers and, behind the version's one byte, destination, source and command.
+    """
+    head = struct.pack("<cBHHHBHHH", letter.encode(), len(name), len(data), first, second, *header)
+    QUESTIONS.append(head + name.encode() + data)
+    LINES.append(" ".join(str(f) for f in (name, *fields) if f != ""))
 
 
 def hexed(data):
@@ -22,21 +33,28 @@ def hexed(data):
 
 
 def told(record):
-    version, destination, source, command, payload = record
-    return "%02X %04X %04X %04X" % (version, destination, source, command), hexed(payload)
+    return "%02X %04X %04X %04X" % record[:4], hexed(record[4])
 
 
-def septets(name, answer):
-    number, block, length, septet = answer
-    line(name, number, hexed(block), length, "%02X" % septet)
+def checksum(name, text, number):
+    block = bytes.fromhex(text)
+    assert rules.checksum(block) == number, name
+    ask("c", name, block, "%02X" % number)
+
+
+def septets(letter, name, data, length, answer):
+    number, block, count, septet = answer
+    ask(letter, name, data, number, hexed(block), count, "%02X" % septet, first=length)
 
 
 def extract(name, text, length):
-    septets(name, rules.extract(bytes.fromhex(text), length))
+    block = bytes.fromhex(text)
+    septets("x", name, block, length, rules.extract(block, length))
 
 
 def inject(name, text, length, septet):
-    septets(name, rules.inject(bytes.fromhex(text), length, septet))
+    block = bytes.fromhex(text)
+    septets("j", name, block + bytes([septet]), length, rules.inject(block, length, septet))
 
 
 def one(name, text, verdict, offset, payload=None):
@@ -44,23 +62,36 @@ def one(name, text, verdict, offset, payload=None):
     s = bytes.fromhex(text)
     assert rules.validate(s) == (verdict, offset), (name, rules.validate(s))
     if verdict:
-        return line(name, "V%d" % verdict, offset)
+        return ask("v", name, s, "V%d" % verdict, offset)
     record = rules.decode(s)
     assert payload is None or record[4] == bytes.fromhex(payload), name
     assert rules.encode(record, offset) == (0, s[:offset]), name
-    line(name, "V0", offset, *told(record), "again")
+    ask("v", name, s, "V0", offset, *told(record), "again")
 
 
 def encode(name, record, room, number):
     said, stream = rules.encode(record, room)
     assert said == number, (name, said)
-    line(name, said, len(stream), hexed(stream), "kept")
+    ask("e", name, record[4], said, len(stream), hexed(stream), "kept", first=room, header=record[:4])
+
+
+def long_packet(name, record):
+    """a packet whose stream is too long for a line"""
+    number, stream = rules.encode(record, 800)
+    assert number == 0 and rules.decode(stream) == record, name
+    ask("l", name, record[4], number, len(stream), "ok", "kept", header=record[:4])
 
 
 def row(name, destination, source, command, ident, value):
     payload = ident.to_bytes(2, "little") + value.to_bytes(4, "little", signed=True)
     record = (0x20, destination, source, command, payload)
-    line(name, hexed(rules.encode(record, 16)[1]), *told(record), value)
+    ask("r", name, payload, hexed(rules.encode(record, 16)[1]), *told(record), value, header=record[:4])
+
+
+def value(name, text, number):
+    payload = bytes.fromhex(text)
+    assert int.from_bytes(payload[2:], "little", signed=True) == number, name
+    ask("i", name, payload, number)
 
 
 def next_(name, text, start, room, place=None):
@@ -69,44 +100,53 @@ def next_(name, text, start, room, place=None):
     assert place is None or (rules.places(s, start) + ["none"])[0] == place, (name, rules.places(s, start))
     number, found = rules.next_record(s, start, room)
     if number:
-        return line(name, number, "kept")
-    if found is None:
-        return line(name, 0, "none", "kept")
-    place, length, record = found
-    line(name, 0, place, length, *told(record), "kept")
+        fields = ()
+    elif found is None:
+        fields = ("none",)
+    else:
+        fields = (*found[:2], *told(found[2]))
+    ask("n", name, s, number, *fields, "kept", first=start, second=room)
 
 
 def normalize(name, text, room, number, same_as=""):
     """`same_as` is what must be written"""
-    said, out = rules.normalize(bytes.fromhex(text), room)
+    s = bytes.fromhex(text)
+    said, out = rules.normalize(s, room)
     assert (said, out) == (number, bytes.fromhex(same_as)), (name, said, out)
-    line(name, said, len(out), hexed(out), "kept")
+    ask("z", name, s, said, len(out), hexed(out), "kept", first=room)
 
 
 BLOCK = (0x10, 0x0015, 0x7E11, 0x0100)
 
 
 def sections(name, text, count, number=0, header=BLOCK):
-    assert rules.section_count(header, bytes.fromhex(text)) == (number, count), name
-    line(name, number, count)
+    payload = bytes.fromhex(text)
+    assert rules.section_count(header, payload) == (number, count), name
+    ask("s", name, payload, number, count, header=header)
 
 
 def elements(name, text, k, count, number=0):
-    assert rules.element_count(BLOCK, bytes.fromhex(text), k) == (number, count), name
-    line(name, number, count)
-
-
-def part(name, text, answer):
-    number, start, length = answer
-    line(name, number, start, length, hexed(bytes.fromhex(text)[start : start + length]))
+    payload = bytes.fromhex(text)
+    assert rules.element_count(BLOCK, payload, k) == (number, count), name
+    ask("m", name, payload, number, count, first=k, header=BLOCK)
 
 
 def section(name, text, k):
-    part(name, text, rules.section(BLOCK, bytes.fromhex(text), k))
+    payload = bytes.fromhex(text)
+    number, start, length = rules.section(BLOCK, payload, k)
+    ask("S", name, payload, number, start, length, hexed(payload[start : start + length]), first=k, header=BLOCK)
 
 
 def element(name, text, k, i):
-    part(name, text, rules.element(BLOCK, bytes.fromhex(text), k, i))
+    payload = bytes.fromhex(text)
+    number, start, length = rules.element(BLOCK, payload, k, i)
+    ask("M", name, payload, number, start, length, hexed(payload[start : start + length]), first=k, second=i, header=BLOCK)
+
+
+def temperature(name, text, number):
+    two = bytes.fromhex(text)
+    assert int.from_bytes(two, "little", signed=True) == number, name
+    ask("t", name, two, number)
 
 
 # ── the samples
@@ -125,12 +165,11 @@ PRINTED = {  # document 000
     "baud-rate": "AA 31 77 10 20 30 25 52 00 42 01 00 00 00 00 02 3A",
     "sub-address": "AA 10 20 31 77 30 27 50 38 10 0D 36 46 23 01 1A 70",
 }
-PATTERN = bytes(i % 251 + 1 for i in range(800))
+PATTERN = bytes(i % 251 + 1 for i in range(512))
 
-assert rules.checksum(b"") == 0x7F and rules.checksum(bytes.fromhex("68 03 74 01 05")) == 0x1A
-line("checksum-none", "7F")
-line("checksum-frame", "1A")
-line("checksum-P1-header", "21")
+checksum("checksum-none", "", 0x7F)
+checksum("checksum-frame", "68 03 74 01 05", 0x1A)
+checksum("checksum-P1-header", P1[3:26], 0x21)
 assert rules.extract(bytes.fromhex("E8 03 F4 01"), 4) == (0, bytes.fromhex("68 03 74 01 00 00 00"), 4, 0x05)
 extract("extract-four", "E8 03 F4 01 00 00 00", 4)
 extract("extract-beyond", "E8 03 F4 01 FF FF FF", 4)
@@ -178,10 +217,10 @@ row("row-3", 0x0020, 0x7210, 0x0100, 0x1234, 750)
 row("row-4", 0x7210, 0x0020, 0x0300, 0x1235, 0)
 row("row-5", 0x0020, 0x7210, 0x0100, 0x3456, 12)
 row("row-6", 0x7210, 0x0020, 0x0600, 0, 0)
-line("value-FFFFFFFF", -1)
-line("value-00000080", -2147483648)
-line("value-FFFFFF7F", 2147483647)
-line("value-01020304", 0x04030201)
+value("value-FFFFFFFF", "34 12 FF FF FF FF", -1)
+value("value-00000080", "34 12 00 00 00 80", -2147483648)
+value("value-FFFFFF7F", "34 12 FF FF FF 7F", 2147483647)
+value("value-01020304", "00 80 01 02 03 04", 0x04030201)
 
 for version, command, frames in (  # document 000's table of commands
     (0x30, 0x01, 0), (0x30, 0x02, 0), (0x30, 0x23, 1), (0x30, 0x04, 0), (0x30, 0x24, 1),
@@ -191,9 +230,8 @@ for version, command, frames in (  # document 000's table of commands
     encode("command-%02X" % command, (version, 0x7731, 0x2010, command, payload), 800, 0)
 
 packet = lambda payload, destination=0x4411, source=0x6610, command=0x0200, version=0x10: (version, destination, source, command, payload)
-longest = rules.encode(packet(PATTERN[:508]), 772)[1]
-assert len(longest) == 772 and rules.decode(longest)[4] == PATTERN[:508]
-line("packet-508", 0, 772, "ok", "kept")
+assert len(rules.written(packet(PATTERN[:508]))) == 772
+long_packet("packet-508", packet(PATTERN[:508]))
 encode("packet-512", packet(PATTERN[:512]), 800, 4)
 encode("packet-3", packet(PATTERN[:3]), 800, 4)
 encode("packet-0", packet(b""), 800, 0)
@@ -267,13 +305,13 @@ for k, (count, number) in enumerate(((6, 0), (2, 0), (1, 0), (0, 11))):
     elements("elements-types-%d" % k, TYPES, k, count, number)
 for k, i in ((0, 5), (1, 1), (2, 0), (2, 1), (3, 0)):
     element("element-types-%d-%d" % (k, i), TYPES, k, i)
-line("temperature-F6FF", -10)
-line("temperature-0080", -32768)
-line("temperature-FF7F", 32767)
+temperature("temperature-F6FF", "F6 FF", -10)
+temperature("temperature-0080", "00 80", -32768)
+temperature("temperature-FF7F", "FF 7F", 32767)
 
-if len(sys.argv) > 1:  # each example's bytes, as document 000 prints them from offset 0 on
+if len(sys.argv) > 2:  # each example's bytes, as document 000 prints them from offset 0 on
     tables, run = [], []
-    for text in open(sys.argv[1]):
+    for text in open(sys.argv[2]):
         cell = re.match(r"(\d+)0x([0-9A-Fa-f]{2})", text)
         if cell and int(cell[1]) == len(run):
             run.append(cell[2].upper())
@@ -283,4 +321,9 @@ if len(sys.argv) > 1:  # each example's bytes, as document 000 prints them from 
     tables = [t for t in tables if t.startswith("AA ")]
     assert tables == list(PRINTED.values()), tables
 
-print("\n".join(LINES))
+questions = b"".join(QUESTIONS)
+assert len(questions) < 65536  # what the program reads
+with open(os.path.join(sys.argv[1], "stdin"), "wb") as file:
+    file.write(questions)
+with open(os.path.join(sys.argv[1], "stdout"), "w") as file:
+    file.write("".join(line + "\n" for line in LINES))

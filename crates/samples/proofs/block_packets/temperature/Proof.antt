@@ -1,4 +1,4 @@
--- `samples::sections::temperature` is safe: a number of 16 bits fits 32. Assumes nothing.
+-- `samples::block_packets::temperature` is safe: a number of 16 bits fits 32. Assumes nothing.
 use mir.Syntax.{w16}
 use mir.Val.{SFits}
 use mir.Facts.{sfits-widen, toZ-ofZ}
@@ -6,8 +6,11 @@ use borrow.Author.Needs.{needs}
 use Rattle.samples.proofs.block_packets.temperature.Statement.{statement}
 use Rattle.samples.proofs.block_packets.temperature.Tie as tie
 
-new-requires : tie.Need-new-requires
-new-requires c κs = search needs
+byte-requires : tie.Need-byte-requires
+byte-requires c κs = search needs
+
+byte-requires-2 : tie.Need-byte-requires-2
+byte-requires-2 c κs = search needs
 
 temperature-requires : tie.Need-temperature-requires
 temperature-requires c κs = search needs
@@ -20,13 +23,10 @@ cast-signed c =
 signed-requires : tie.Need-signed-requires
 signed-requires c κs = search needs
 
-print-requires : tie.Need-print-requires
-print-requires c κs = search needs
-
 returns : tie.Need-returns
 returns c = search needs
 
 pub temperature-spec : {M : Type 1} → statement M
 temperature-spec =
     tie.close
-    (tie.spec new-requires temperature-requires cast-signed signed-requires print-requires returns)
+    (tie.spec byte-requires byte-requires-2 temperature-requires cast-signed signed-requires returns)

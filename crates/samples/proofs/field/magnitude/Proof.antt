@@ -1,4 +1,4 @@
--- `samples::line::magnitude` is safe: a number of 32 bits and its negation both fit 64. Assumes nothing.
+-- `samples::field::magnitude` is safe: a number of 32 bits and its negation both fit 64. Assumes nothing.
 use Prim.Native.Nat.{ℕ}
 use native.Mathlib.Omega.{arith}
 use mathlib.Core.Path.{_≡_, ap, _∙_}
@@ -11,8 +11,8 @@ use mir.Val.{Fits, SFits, toZ, ofZ}
 use mir.Facts.{sfits-widen, toZ-ofZ}
 use borrow.Author.Needs.{needs}
 use borrow.Author.Tests.{ltb-true}
-use Rattle.samples.proofs.line.magnitude.Statement.{statement}
-use Rattle.samples.proofs.line.magnitude.Tie as tie
+use Rattle.samples.proofs.field.magnitude.Statement.{statement}
+use Rattle.samples.proofs.field.magnitude.Tie as tie
 
 -- what a cast to `u64` asks
 abbrev Natural : ℤ → Type 0
