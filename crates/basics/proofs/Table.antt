@@ -67,6 +67,15 @@ module _ (lines : List (Bool × ℕ)) (test : Bool) (number : ℕ) where
         let both = first-none lines ((test, number) ∷ []) numbered e in
         (both .0, line-passed test number 0 pos (both .1) .0)
 
-    -- refused by this line, or not at all
-    pub last-decides : first lines ≡ 0 → first longer ≡ choose test number 0
-    last-decides none = first-next lines ((test, number) ∷ []) numbered none
+    module _ (none : first lines ≡ 0) where
+      -- refused by this line, or not at all
+      pub last-decides : first longer ≡ choose test number 0
+      last-decides = first-next lines ((test, number) ∷ []) numbered none
+
+      pub last-taken : test ≡ true → first longer ≡ number
+      unfolding choose
+      last-taken e = last-decides ∙ rw e
+
+      pub last-free : test ≡ false → first longer ≡ 0
+      unfolding choose
+      last-free e = last-decides ∙ rw e

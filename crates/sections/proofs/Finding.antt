@@ -1,0 +1,99 @@
+-- Laws of the answers about sections.
+use Prim.Native.Nat.{ℕ, _-_, _%_, _<_, _≤_}
+use native.Mathlib.Omega.{arith}
+use native.Mathlib.Nat.{zero-add}
+use mathlib.Core.Path.{_≡_, sym, ap, _∙_}
+use mathlib.Core.Logic.{_≢_}
+use mathlib.Core.Bool.{true, false, _&&_, _||_, not}
+use mathlib.Core.List.{List}
+use lib.Dec.{eqb, leb, ltb}
+use lib.ListN.{length}
+use borrow.Author.Tests.{le-leb, lt-leb, leb-false, ltb-false}
+use Rattle.basics.specs.Choice.{choose}
+use Rattle.basics.proofs.Choice.{neither}
+use Rattle.basics.proofs.Table.{Numbered, line-passed, last-unasked, last-passed, last-taken, last-free}
+use Rattle.record.specs.declared.Header.{Header}
+use Rattle.sections.specs.Section.{sectionLength, sectionsOf, overrun}
+use Rattle.sections.specs.Answer.{notBlock, blockLines, sectionLines, sectionCount, sectionFound}
+use Rattle.sections.specs.Stage.{chainCount}
+use Rattle.sections.specs.declared.Count.{Count}
+use Rattle.sections.proofs.Tables.{counted-none, located-refused, located-given}
+use Rattle.sections.proofs.Sections.{sections-at-most, from, from-start, from-size, Standing, standing}
+
+-- a block packet's payload has 508 bytes at most
+pub block-room : (h : Header) (n : ℕ) → notBlock h n ≡ false → n ≤ 508
+unfolding notBlock
+block-room h n e =
+    ltb-false 508 n
+    (neither (not (eqb (n % 4) 0)) (ltb 508 n)
+    (neither (not (eqb (h .version) 0x10 && (eqb (h .destination) 0x0015 && eqb (h .command) 0x0100))) (not (eqb (n % 4) 0) || ltb 508 n) e .1) .1)
+
+module _ (h : Header) (p : List ℕ) where
+  pub block-counted : notBlock h (length p) ≡ false → chainCount p 0 ≡ sectionCount h p
+  unfolding choose
+  block-counted e = rw (e, zero-add (length (sectionsOf p)))
+
+  pub block-refused : notBlock h (length p) ≡ true → record { number = 8; count = 0 } ≡ sectionCount h p
+  unfolding choose
+  block-refused e = rw e
+
+  pub block-numbered : Numbered (blockLines h p)
+  block-numbered = (omega arith, (omega arith, tt))
+
+  pub section-numbered : (k : ℕ) → Numbered (sectionLines h p k)
+  section-numbered k = (omega arith, (omega arith, (omega arith, tt)))
+
+  -- section k is there, and the chain of sections is whole
+  pub record Present (k : ℕ) : Type 0 where
+    pub counted : sectionCount h p .number ≡ 0
+    pub here : k < length (sectionsOf p)
+    pub whole : overrun p ≡ false
+    pub near : k < 127
+
+  present : (k : ℕ) → sectionCount h p .number ≡ 0 → k < length (sectionsOf p) → Present k
+  present k none here =
+      let lines = line-passed (notBlock h (length p)) 8 _ (omega arith) none in
+      let whole = line-passed (overrun p) 9 0 (omega arith) (lines .1) .0 in
+      record {
+        counted = none;
+        here = here;
+        whole = whole;
+        near = omega (arith, sections-at-most p whole, block-room h (length p) (lines .0));
+      }
+
+  found-present : (k : ℕ) → sectionFound h p k .number ≡ 0 → Present k
+  found-present k e =
+      let both = last-passed (blockLines h p) (leb (length (sectionsOf p)) k) 10 block-numbered (omega arith) e in
+      present k (both .0) (leb-false _ _ (both .1))
+
+  pub section-standing : (k : ℕ) → sectionFound h p k .number ≡ 0 → Standing p k
+  section-standing k e =
+      let there = found-present k e in
+      standing p k (there .here) (there .whole)
+
+  -- what `find_section` answers, after what `section_count` does
+  module _ (k : ℕ) (c : Count) (is : c ≡ sectionCount h p) where
+    number-is : c .number ≡ sectionCount h p .number
+    number-is = ap (λ (x : Count). x .number) is
+
+    pub find-refused : c .number ≢ 0 → record { number = c .number; start = 0; length = 0 } ≡ sectionFound h p k
+    find-refused r = located-refused (sectionLines h p k) (c .number) (last-unasked (blockLines h p) (leb (length (sectionsOf p)) k) 10 (c .number) number-is r) r _ _
+
+    module _ (none : c .number ≡ 0) where
+      count-is : c .count ≡ length (sectionsOf p)
+      count-is = counted-none (blockLines h p) _ c is none
+
+      pub find-missing : c .count ≤ k → record { number = 10; start = 0; length = 0 } ≡ sectionFound h p k
+      find-missing l =
+          located-refused (sectionLines h p k) 10
+          (last-taken (blockLines h p) (leb (length (sectionsOf p)) k) 10 block-numbered (sym number-is ∙ none) (le-leb _ k (omega (arith, count-is)))) (λ e. omega arith) _ _
+
+      module _ (here : k < c .count) where
+        pub find-present : Present k
+        find-present = present k (sym number-is ∙ none) (omega (arith, count-is))
+
+        pub find-here : record { number = 0; start = length p - length (from p k); length = sectionLength (from p k) } ≡ sectionFound h p k
+        find-here =
+            let there = find-present in
+            rw (sym (from-start p k (there .here) (there .whole)), sym (from-size p k (there .here) (there .whole)))
+            (located-given (sectionLines h p k) (last-free (blockLines h p) (leb (length (sectionsOf p)) k) 10 block-numbered (there .counted) (lt-leb _ k (there .here))) _ _)

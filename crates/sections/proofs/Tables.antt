@@ -1,0 +1,66 @@
+-- Laws of the answers that are given by a table's lines.
+use Prim.Native.Nat.{ℕ, _+_, _<_, _≤_}
+use native.Mathlib.Omega.{arith}
+use native.Mathlib.Decide.{ℕ-discrete}
+use mathlib.Core.Path.{_≡_, refl, sym, ap, _∙_}
+use mathlib.Core.Logic.{_≢_, _↔_, dite}
+use mathlib.Core.Bool.{Bool}
+use mathlib.Core.List.{List, [], _∷_, _++_}
+use lib.Dec.{leb}
+use lib.ListN.{length, take, drop}
+use borrow.Author.Tests.{leb-false, lt-leb}
+use Rattle.basics.specs.Choice.{first}
+use Rattle.basics.proofs.Table.{Numbered, when-none, when-refused, last-passed, last-free}
+use Rattle.sections.specs.Answer.{counted, located, shown}
+use Rattle.sections.specs.declared.Count.{Count}
+
+-- the first line that applies has the number x
+module _ (lines : List (Bool × ℕ)) (x : ℕ) (is : first lines ≡ x) where
+  pub counted-refused : x ≢ 0 → (n : ℕ) → record { number = x; count = 0 } ≡ counted lines n
+  counted-refused r n = rw (is, when-refused x n 0 r)
+
+  pub located-refused : x ≢ 0 → (start n : ℕ) → record { number = x; start = 0; length = 0 } ≡ located lines start n
+  located-refused r start n = rw (is, when-refused x start 0 r, when-refused x n 0 r)
+
+-- no line applies
+module _ (lines : List (Bool × ℕ)) (none : first lines ≡ 0) where
+  pub counted-given : (n : ℕ) → record { number = 0; count = n } ≡ counted lines n
+  counted-given n = rw (none, when-none 0 n 0 refl)
+
+  pub located-given : (start n : ℕ) → record { number = 0; start = start; length = n } ≡ located lines start n
+  located-given start n = rw (none, when-none 0 start 0 refl, when-none 0 n 0 refl)
+
+pub counted-none : (lines : List (Bool × ℕ)) (n : ℕ) (c : Count) → c ≡ counted lines n → c .number ≡ 0 → c .count ≡ n
+counted-none lines n c is e =
+    ap (λ (x : Count). x .count) is ∙ when-none _ n 0 (sym (ap (λ (x : Count). x .number) is) ∙ e)
+
+-- where the count isn't refused, a last line that asks for a number below it passes exactly then
+pub below-count : (lines : List (Bool × ℕ)) (number n k : ℕ) → Numbered lines → 0 < number → first lines ≡ 0
+    → (first (lines ++ ((leb n k, number) ∷ [])) ≡ 0) ↔ (k < counted lines n .count)
+below-count lines number n k numbered pos none =
+    let is = when-none (first lines) n 0 none in (
+      λ e. rw is (leb-false n k (last-passed lines (leb n k) number numbered pos e .1)),
+      λ below. last-free lines (leb n k) number numbered none (lt-leb n k (omega (arith, is))),
+    )
+
+-- ── the bytes that are shown
+
+module _ (lines : List (Bool × ℕ)) (p : List ℕ) (start n : ℕ) where
+  pub located-within : (first lines ≡ 0 → start + n ≤ length p) → located lines start n .start + located lines start n .length ≤ length p
+  located-within given =
+      dite (ℕ-discrete (first lines) 0)
+      (λ e. rw (when-none _ start 0 e, when-none _ n 0 e) (given e))
+      (λ h. rw (when-refused _ start 0 h, when-refused _ n 0 h) (omega arith))
+
+  pub shown-at : (part : List ℕ) → (first lines ≡ 0 → take n (drop start p) ≡ part)
+      → shown lines part ≡ take (located lines start n .length) (drop (located lines start n .start) p)
+  shown-at part given =
+      dite (ℕ-discrete (first lines) 0)
+      (λ e. rw (when-none _ part [] e, when-none _ start 0 e, when-none _ n 0 e) (sym (given e)))
+      (λ h. rw (when-refused _ part [] h, when-refused _ start 0 h, when-refused _ n 0 h))
+
+pub shown-none : (lines : List (Bool × ℕ)) (part : List ℕ) → (first lines ≡ 0 → 0 < length part) → (shown lines part ≡ []) ↔ (first lines ≢ 0)
+shown-none lines part given = (
+  λ e none. omega (arith, given none, ap length (sym (when-none _ part [] none) ∙ e)),
+  λ h. when-refused _ part [] h,
+)
