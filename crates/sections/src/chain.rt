@@ -15,10 +15,7 @@ pub fn header_step(rest: &[u8], count: usize) -> Count
     ensures { λ r. ⌜ r ≡ chainCount (now (rest .entry)) count ⌝ }
 {
     if rest.len() == 0 {
-        return Count {
-            number: 0,
-            count,
-        };
+        return Count { number: 0, count };
     }
     if rest.len() < 4 {
         return Count {

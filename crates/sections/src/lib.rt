@@ -1,6 +1,6 @@
 // The sections and elements in the payload of a block packet.
 ghost use mathlib.Core.Path.{_≡_};
-ghost use Prim.Native.Nat.{_+_, _≤_};
+ghost use Prim.Native.Nat.{_+_, _*_, _≤_};
 ghost use lib.ListN.{length, take, drop};
 ghost use Rattle.sections.specs.Answer.{notBlock, sectionCount, sectionFound, sectionShown, elementCount, elementFound, elementShown};
 ghost use Rattle.sections.specs.Element.{elementSize, temperatureOf};
@@ -62,10 +62,10 @@ fn not_block(header: Header, bytes: usize) -> bool
 }
 
 // The bytes of an element, by its section's type; 0 for a type that is not in the table.
-fn element_size(sort: u8) -> usize
-    ensures { λ r. ⌜ r ≡ elementSize sort ⌝ }
+fn element_size(section_type: u8) -> usize
+    ensures { λ r. ⌜ r ≡ elementSize «section_type» ⌝ }
 {
-    match sort {
+    match section_type {
         0x01 => 2,
         0x05 => 4,
         0x08 => 1,
@@ -190,11 +190,18 @@ pub fn element<'a>(header: Header, payload: &'a [u8], k: usize, i: usize) -> Sho
     }
 }
 
+// The number of two bytes.
+fn word_of(low: u8, high: u8) -> u16
+    ensures { λ r. ⌜ r ≡ low + 256 * high ⌝ }
+{
+    (low as u16) + 256 * (high as u16)
+}
+
 // A temperature: an element's two bytes as a signed number.
 pub fn temperature(bytes: [u8; 2]) -> i16
     ensures { λ r. ⌜ r ≡ temperatureOf bytes ⌝ }
 {
-    let word = (bytes[0] as u16) + 256 * (bytes[1] as u16);
+    let word = word_of(bytes[0], bytes[1]);
     if word < 0x8000 {
         word as i16
     } else {
