@@ -2,9 +2,9 @@
 use Prim.Native.Nat.{ℕ, _-_, _%_, _<_, _≤_}
 use native.Mathlib.Omega.{arith}
 use native.Mathlib.Nat.{zero-add}
-use mathlib.Core.Path.{_≡_, sym, ap, _∙_}
+use mathlib.Core.Path.{_≡_, refl, sym, ap, _∙_}
 use mathlib.Core.Logic.{_≢_, _↔_}
-use mathlib.Core.Bool.{true, false, _&&_, _||_, not}
+use mathlib.Core.Bool.{Bool, true, false, not}
 use mathlib.Core.List.{List}
 use lib.Dec.{eqb, leb, ltb}
 use lib.ListN.{length}
@@ -32,10 +32,10 @@ pub block-exactly : (h : Header) (n : ℕ) → (notBlock h n ≡ false) ↔ Bloc
 unfolding notBlock
 block-exactly h n = (
   λ e.
-      let v = neither _ _ e in
-      let d = neither _ _ (v .1) in
-      let c = neither _ _ (d .1) in
-      let f = neither _ _ (c .1) in
+      let v = neither (not (eqb (h .version) 0x10)) _ e in
+      let d = neither (not (eqb (h .destination) 0x0015)) _ (v .1) in
+      let c = neither (not (eqb (h .command) 0x0100)) _ (d .1) in
+      let f = neither (not (eqb (n % 4) 0)) (ltb 508 n) (c .1) in
       record {
         version = eqb-true _ _ (not-false _ (v .0));
         destination = eqb-true _ _ (not-false _ (d .0));
@@ -45,6 +45,17 @@ block-exactly h n = (
       },
   λ b. rw (eq-eqb _ _ (b .version), eq-eqb _ _ (b .destination), eq-eqb _ _ (b .command), eq-eqb _ _ (b .frames), le-ltb _ _ (b .room)),
 )
+
+pub no-block : (h : Header) (n : ℕ) → (Block h n → ⊥) → true ≡ notBlock h n
+no-block h n never = go (notBlock h n) refl
+  where
+    go : (t : Bool) → notBlock h n ≡ t → true ≡ t
+    go true e = refl
+    go false e = absurd (never (block-exactly h n .0 e))
+
+pub room-left : (h : Header) (n : ℕ) → h .version ≡ 0x10 → h .destination ≡ 0x0015 → h .command ≡ 0x0100 → n % 4 ≡ 0 → ltb 508 n ≡ notBlock h n
+unfolding notBlock
+room-left h n v d c f = rw (eq-eqb _ _ v, eq-eqb _ _ d, eq-eqb _ _ c, eq-eqb _ _ f)
 
 module _ (h : Header) (p : List ℕ) where
   pub block-counted : notBlock h (length p) ≡ false → chainCount p 0 ≡ sectionCount h p

@@ -34,11 +34,11 @@ pub record Refusal (number : ℕ) (block whole : Type 0) : Type 0 where
 by-two : (a b : Bool) {A B : Type 0} → (a ≡ false) ↔ A → (b ≡ false) ↔ B → Refusal (choose a 8 (choose b 9 0)) A B
 unfolding choose
 by-two true b {A} f g =
-    let no : A → ⊥ = λ x. true≢false (f .1 x) in
-    record { none = (λ e. absurd (omega arith), λ x. absurd (no (x .0))); eight = (λ e. no, λ x. refl); nine = (λ e. absurd (omega arith), λ x. absurd (no (x .0))) }
+    let never : A → ⊥ = λ x. true≢false (f .1 x) in
+    record { none = (λ e. absurd (omega arith), λ x. absurd (never (x .0))); eight = (λ e. never, λ x. refl); nine = (λ e. absurd (omega arith), λ x. absurd (never (x .0))) }
 by-two false true {A} {B} f g =
-    let no : B → ⊥ = λ x. true≢false (g .1 x) in
-    record { none = (λ e. absurd (omega arith), λ x. absurd (no (x .1))); eight = (λ e. absurd (omega arith), λ x. absurd (x (f .0 refl))); nine = (λ e. (f .0 refl, no), λ x. refl) }
+    let never : B → ⊥ = λ x. true≢false (g .1 x) in
+    record { none = (λ e. absurd (omega arith), λ x. absurd (never (x .1))); eight = (λ e. absurd (omega arith), λ x. absurd (x (f .0 refl))); nine = (λ e. (f .0 refl, never), λ x. refl) }
 by-two false false f g =
     record { none = (λ e. (f .0 refl, g .0 refl), λ x. refl); eight = (λ e. absurd (omega arith), λ x. absurd (x (f .0 refl))); nine = (λ e. absurd (omega arith), λ x. absurd (x .1 (g .0 refl))) }
 

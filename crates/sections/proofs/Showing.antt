@@ -18,7 +18,7 @@ use denote.RattleType.{RattleType, Denots, Valss, owns}
 use denote.Laws.{Is, Tells, shows as shown}
 use denote.Plain.{uint-makes}
 use denote.Builtin.{u8, u32}
-use denote.Ref.{RefT, NamedLft, now}
+use denote.Ref.{RefT, now}
 use denote.Signature.{namedLft}
 use denote.Slice.{slice-vals, ShrSlice, shr-slice-copy}
 use denote.Steps.{only, owned, peeks, heard, nothing}

@@ -14,8 +14,8 @@ use Rattle.basics.proofs.Table.{Numbered, when-none, when-refused, last-unasked
 use Rattle.sections.specs.Answer.{counted, located, shown}
 use Rattle.sections.specs.declared.Count.{Count}
 
-after : {A B C : Type 0} → A ↔ B → B ↔ C → A ↔ C
-after f g = (λ a. g .0 (f .0 a), λ c. f .1 (g .1 c))
+through : {A B C : Type 0} → A ↔ B → B ↔ C → A ↔ C
+through f g = (λ a. g .0 (f .0 a), λ c. f .1 (g .1 c))
 
 -- the first line that applies has the number x
 module _ (lines : List (Bool × ℕ)) (x : ℕ) (is : first lines ≡ x) where
@@ -54,8 +54,8 @@ module _ (number : ℕ) (pos : 0 < number) where
         → Next (first lines) (first (lines ++ ((test, number) ∷ []))) number applies passes
     asked-last test means = record {
       kept = λ r. last-unasked lines test number (first lines) refl r;
-      refused = λ none. rw (last-decides lines test number numbered none) (after (chosen test .0) (means none .0));
-      given = λ none. rw (last-decides lines test number numbered none) (after (chosen test .1) (means none .1));
+      refused = λ none. rw (last-decides lines test number numbered none) (through (chosen test .0) (means none .0));
+      given = λ none. rw (last-decides lines test number numbered none) (through (chosen test .1) (means none .1));
     }
 
     -- a number at or above the count is refused

@@ -23,7 +23,7 @@ returns c =
     let a = c .before .before .before .before .before .args in
     let elements = c .before .before .before .element-count in
     c .refused .ensures
-    ∙ element-refused (a .header) (a .payload .now) (a .k) (a .i) (elements .result) (elements .ensures) (c .before .if1 .taken)
+    ∙ element-refused (a .header) (a .payload .now) (a .k) (a .i) (elements .result) (elements .ensures) (λ e. omega arith)
 
 refused-requires-2 : tie.Need-refused-requires-2
 refused-requires-2 c κs = search needs
@@ -33,7 +33,7 @@ returns-2 c =
     let a = c .before .before .before .before .before .before .before .args in
     let elements = c .before .before .before .before .before .element-count in
     c .refused2 .ensures
-    ∙ element-missing (a .header) (a .payload .now) (a .k) (a .i) (elements .result) (elements .ensures) (c .before .before .before .if1 .left) (c .before .if2 .taken)
+    ∙ element-missing (a .header) (a .payload .now) (a .k) (a .i) (elements .result) (elements .ensures) (omega arith) (omega arith)
 
 find-section-requires : tie.Need-find-section-requires
 find-section-requires c κs = search needs
