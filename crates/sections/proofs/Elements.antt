@@ -76,7 +76,7 @@ module _ (h : Header) (p : List ℕ) (k : ℕ) where
   pub type-numbered : Numbered (typeLines h p k)
   type-numbered = (omega arith, (omega arith, (omega arith, (omega arith, tt))))
 
-  typed : elementCount h p k .number ≡ 0 → (sectionFound h p k .number ≡ 0) × (0 < sizeIn (sectionAt p k))
+  pub typed : elementCount h p k .number ≡ 0 → (sectionFound h p k .number ≡ 0) × (0 < sizeIn (sectionAt p k))
   typed e =
       let both = last-passed (sectionLines h p k) (eqb (sizeIn (sectionAt p k)) 0) 11 (section-numbered h p k) (omega arith) e in
       (both .0, pos-of-ne-zero (eqb-false _ 0 (both .1)))
@@ -136,11 +136,8 @@ module _ (h : Header) (p : List ℕ) (k : ℕ) where
         pub element-fits : Inside i
         element-fits = inside i (sym type-is ∙ none) (omega (arith, count-is))
 
-        module _ (start size : ℕ) (at : start ≡ startOf p k) (sized : size ≡ sizeIn (sectionAt p k)) where
-          pub element-room : start + (4 + i * size) + size ≤ length p
-          element-room = rw (at, sized) (element-fits .within)
-
-          pub element-here : record { number = 0; start = start + (4 + i * size); length = size } ≡ elementFound h p k i
-          element-here =
-              rw (at, sized)
-              (located-given (elementLines h p k i) (last-free (typeLines h p k) (leb (elementsIn (sectionAt p k)) i) 10 type-numbered (sym type-is ∙ none) (lt-leb _ i (omega (arith, count-is)))) _ _)
+        pub element-here : (start size : ℕ) → start ≡ startOf p k → size ≡ sizeIn (sectionAt p k)
+            → (start + (4 + i * size) + size ≤ length p) × (record { number = 0; start = start + (4 + i * size); length = size } ≡ elementFound h p k i)
+        element-here start size at sized =
+            rw (at, sized)
+            (element-fits .within, located-given (elementLines h p k i) (last-free (typeLines h p k) (leb (elementsIn (sectionAt p k)) i) 10 type-numbered (sym type-is ∙ none) (lt-leb _ i (omega (arith, count-is)))) _ _)

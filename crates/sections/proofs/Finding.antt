@@ -2,13 +2,13 @@
 use Prim.Native.Nat.{ℕ, _-_, _%_, _<_, _≤_}
 use native.Mathlib.Omega.{arith}
 use native.Mathlib.Nat.{zero-add}
-use mathlib.Core.Path.{_≡_, sym, ap, _∙_}
-use mathlib.Core.Logic.{_≢_}
-use mathlib.Core.Bool.{true, false, _&&_, _||_, not}
+use mathlib.Core.Path.{_≡_, refl, sym, ap, _∙_}
+use mathlib.Core.Logic.{_≢_, _↔_}
+use mathlib.Core.Bool.{Bool, true, false, not}
 use mathlib.Core.List.{List}
 use lib.Dec.{eqb, leb, ltb}
 use lib.ListN.{length}
-use borrow.Author.Tests.{le-leb, lt-leb, leb-false, ltb-false}
+use borrow.Author.Tests.{eq-eqb, eqb-true, not-false, le-leb, lt-leb, leb-false, le-ltb, ltb-false}
 use Rattle.basics.specs.Choice.{choose}
 use Rattle.basics.proofs.Choice.{neither}
 use Rattle.basics.proofs.Table.{Numbered, line-passed, last-unasked, last-passed, last-taken, last-free}
@@ -20,13 +20,42 @@ use Rattle.sections.specs.declared.Count.{Count}
 use Rattle.sections.proofs.Tables.{counted-none, located-refused, located-given}
 use Rattle.sections.proofs.Sections.{sections-at-most, from, from-start, from-size, Standing, standing}
 
--- a block packet's payload has 508 bytes at most
-pub block-room : (h : Header) (n : ℕ) → notBlock h n ≡ false → n ≤ 508
+-- what a block packet is, and which payloads it can have
+pub record Block (h : Header) (n : ℕ) : Type 0 where
+  pub version : h .version ≡ 0x10
+  pub destination : h .destination ≡ 0x0015
+  pub command : h .command ≡ 0x0100
+  pub frames : n % 4 ≡ 0
+  pub room : n ≤ 508
+
+pub block-exactly : (h : Header) (n : ℕ) → (notBlock h n ≡ false) ↔ Block h n
 unfolding notBlock
-block-room h n e =
-    ltb-false 508 n
-    (neither (not (eqb (n % 4) 0)) (ltb 508 n)
-    (neither (not (eqb (h .version) 0x10 && (eqb (h .destination) 0x0015 && eqb (h .command) 0x0100))) (not (eqb (n % 4) 0) || ltb 508 n) e .1) .1)
+block-exactly h n = (
+  λ e.
+      let v = neither (not (eqb (h .version) 0x10)) _ e in
+      let d = neither (not (eqb (h .destination) 0x0015)) _ (v .1) in
+      let c = neither (not (eqb (h .command) 0x0100)) _ (d .1) in
+      let f = neither (not (eqb (n % 4) 0)) (ltb 508 n) (c .1) in
+      record {
+        version = eqb-true _ _ (not-false _ (v .0));
+        destination = eqb-true _ _ (not-false _ (d .0));
+        command = eqb-true _ _ (not-false _ (c .0));
+        frames = eqb-true _ _ (not-false _ (f .0));
+        room = ltb-false _ _ (f .1);
+      },
+  λ b. rw (eq-eqb _ _ (b .version), eq-eqb _ _ (b .destination), eq-eqb _ _ (b .command), eq-eqb _ _ (b .frames), le-ltb _ _ (b .room)),
+)
+
+pub no-block : (h : Header) (n : ℕ) → (Block h n → ⊥) → true ≡ notBlock h n
+no-block h n never = go (notBlock h n) refl
+  where
+    go : (t : Bool) → notBlock h n ≡ t → true ≡ t
+    go true e = refl
+    go false e = absurd (never (block-exactly h n .0 e))
+
+pub room-left : (h : Header) (n : ℕ) → h .version ≡ 0x10 → h .destination ≡ 0x0015 → h .command ≡ 0x0100 → n % 4 ≡ 0 → ltb 508 n ≡ notBlock h n
+unfolding notBlock
+room-left h n v d c f = rw (eq-eqb _ _ v, eq-eqb _ _ d, eq-eqb _ _ c, eq-eqb _ _ f)
 
 module _ (h : Header) (p : List ℕ) where
   pub block-counted : notBlock h (length p) ≡ false → chainCount p 0 ≡ sectionCount h p
@@ -58,10 +87,10 @@ module _ (h : Header) (p : List ℕ) where
         counted = none;
         here = here;
         whole = whole;
-        near = omega (arith, sections-at-most p whole, block-room h (length p) (lines .0));
+        near = omega (arith, sections-at-most p whole, block-exactly h (length p) .0 (lines .0) .room);
       }
 
-  found-present : (k : ℕ) → sectionFound h p k .number ≡ 0 → Present k
+  pub found-present : (k : ℕ) → sectionFound h p k .number ≡ 0 → Present k
   found-present k e =
       let both = last-passed (blockLines h p) (leb (length (sectionsOf p)) k) 10 block-numbered (omega arith) e in
       present k (both .0) (leb-false _ _ (both .1))

@@ -1,70 +1,169 @@
--- What the definitions promise of each other: sections and elements are found exactly if they are there, and lie where they should.
--- Sections.antt has `sections-joined`, that the sections are the payload, and `section-whole`.
-use Prim.Native.Nat.{ℕ, _+_, _<_, _≤_}
+-- What the answers promise of each other, with document 01's numbers: which refusal is given when, and where what is found lies.
+-- Sections.antt has `sections-joined`, that the sections are the payload; Samples.antt the table of types, at every type.
+use Prim.Native.Nat.{ℕ, suc, _+_, _*_, _<_, _≤_}
 use native.Mathlib.Omega.{arith}
-use mathlib.Core.Path.{_≡_}
+use native.Mathlib.Nat.{pos-of-ne-zero, div-mul-le-self, lt-div-mul-add}
+use mathlib.Core.Path.{_≡_, refl, sym, ap, _∙_}
 use mathlib.Core.Logic.{_≢_, _↔_}
-use mathlib.Core.List.{List, []}
-use lib.ListN.{length, take, drop}
-use Rattle.basics.proofs.Table.{when-none}
+use mathlib.Core.Bool.{Bool, true, false, true≢false}
+use mathlib.Core.List.{List, [], flatten}
+use lib.Dec.{eqb}
+use lib.ListN.{length, getD, take, drop}
+use lib.Seq.{take-all}
+use denote.Ref.{RefT, now}
+use borrow.Author.Tests.{eq-eqb, ne-eqb, eqb-true, eqb-false}
+use Rattle.basics.specs.Choice.{choose}
+use Rattle.basics.proofs.Table.{when-none, when-refused}
 use Rattle.record.specs.declared.Header.{Header}
-use Rattle.sections.specs.Section.{sectionsOf, typeOf, sectionAt, startOf}
+use Rattle.sections.specs.Section.{sectionsOf, overrun, sectionAt, startOf}
 use Rattle.sections.specs.Element.{elementSize, sizeIn, elementsIn, offsetIn, elementAt}
-use Rattle.sections.specs.Answer.{blockLines, sectionLines, typeLines, elementLines, sectionCount, sectionFound, sectionShown, elementCount, elementFound, elementShown}
-use Rattle.sections.proofs.Tables.{below-count, located-within, shown-at, shown-none}
-use Rattle.sections.proofs.Finding.{block-numbered, section-standing}
-use Rattle.sections.proofs.Elements.{type-numbered, element-inside}
+use Rattle.sections.specs.Answer.{notBlock, blockLines, sectionLines, typeLines, elementLines, sectionCount, sectionFound, sectionShown, elementCount, elementFound, elementShown}
+use Rattle.sections.specs.Part.{Shows}
+use Rattle.sections.specs.declared.Shown.{Shown}
+use Rattle.sections.proofs.Tables.{Next, asked-last, asked-below, located-within, shown-at, shown-none}
+use Rattle.sections.proofs.Sections.{Whole, overrun-exactly, start-next, sections-joined}
+use Rattle.sections.proofs.Finding.{Block, block-exactly, block-numbered, section-numbered, found-present, section-standing}
+use Rattle.sections.proofs.Elements.{type-numbered, typed, element-inside}
 
-module _ (h : Header) (p : List ℕ) (k : ℕ) where
-  -- a section is found exactly if its number is below the count
-  pub section-exists : sectionCount h p .number ≡ 0 → (sectionFound h p k .number ≡ 0) ↔ (k < sectionCount h p .count)
-  section-exists none = below-count (blockLines h p) 10 (length (sectionsOf p)) k (block-numbered h p) (omega arith) none
+-- 0, 8 or 9, by what holds where 8 isn't given, and what holds where 9 isn't
+pub record Refusal (number : ℕ) (block whole : Type 0) : Type 0 where
+  pub none : (number ≡ 0) ↔ (block × whole)
+  pub eight : (number ≡ 8) ↔ (block → ⊥)
+  pub nine : (number ≡ 9) ↔ (block × (whole → ⊥))
 
-  -- the part that a section is shown as, and where it stands
-  pub section-at : sectionShown h p k ≡ take (sectionFound h p k .length) (drop (sectionFound h p k .start) p)
-  section-at =
-      shown-at (sectionLines h p k) p (startOf p k) (length (sectionAt p k)) (sectionAt p k) (λ e. section-standing h p k e .part)
+by-two : (a b : Bool) {A B : Type 0} → (a ≡ false) ↔ A → (b ≡ false) ↔ B → Refusal (choose a 8 (choose b 9 0)) A B
+unfolding choose
+by-two true b {A} f g =
+    let never : A → ⊥ = λ x. true≢false (f .1 x) in
+    record { none = (λ e. absurd (omega arith), λ x. absurd (never (x .0))); eight = (λ e. never, λ x. refl); nine = (λ e. absurd (omega arith), λ x. absurd (never (x .0))) }
+by-two false true {A} {B} f g =
+    let never : B → ⊥ = λ x. true≢false (g .1 x) in
+    record { none = (λ e. absurd (omega arith), λ x. absurd (never (x .1))); eight = (λ e. absurd (omega arith), λ x. absurd (x (f .0 refl))); nine = (λ e. (f .0 refl, never), λ x. refl) }
+by-two false false f g =
+    record { none = (λ e. (f .0 refl, g .0 refl), λ x. refl); eight = (λ e. absurd (omega arith), λ x. absurd (x (f .0 refl))); nine = (λ e. absurd (omega arith), λ x. absurd (x .1 (g .0 refl))) }
 
-  pub section-within : sectionFound h p k .start + sectionFound h p k .length ≤ length p
-  section-within =
-      located-within (sectionLines h p k) p (startOf p k) (length (sectionAt p k)) (λ e. section-standing h p k e .within)
+module _ (h : Header) (p : List ℕ) where
+  -- sections are counted exactly if it is a block packet and each of them is whole; 8 exactly if it is none, else 9
+  pub sections-exist : Refusal (sectionCount h p .number) (Block h (length p)) (Whole p)
+  sections-exist = by-two (notBlock h (length p)) (overrun p) (block-exactly h (length p)) (overrun-exactly p)
 
-  section-empty : (sectionShown h p k ≡ []) ↔ (sectionFound h p k .number ≢ 0)
-  section-empty = shown-none (sectionLines h p k) (sectionAt p k) (λ e. omega (arith, section-standing h p k e .whole))
+  module _ (k : ℕ) where
+    -- a section is found exactly if its number is below the count; else 10
+    pub section-exists : Next (sectionCount h p .number) (sectionFound h p k .number) 10 (sectionCount h p .count ≤ k) (k < sectionCount h p .count)
+    section-exists = asked-below 10 (omega arith) (blockLines h p) (block-numbered h p) (length (sectionsOf p)) k
 
-  module _ (i : ℕ) where
-    -- an element is found exactly if its number is below the count
-    pub element-exists : elementCount h p k .number ≡ 0 → (elementFound h p k i .number ≡ 0) ↔ (i < elementCount h p k .count)
-    element-exists none = below-count (typeLines h p k) 10 (elementsIn (sectionAt p k)) i (type-numbered h p k) (omega arith) none
+    -- its elements are counted exactly if its type is in the table; else 11
+    pub type-exists : Next (sectionFound h p k .number) (elementCount h p k .number) 11 (elementSize (getD (sectionAt p k) 1 0) ≡ 0) (0 < elementSize (getD (sectionAt p k) 1 0))
+    type-exists =
+        let size = elementSize (getD (sectionAt p k) 1 0) in
+        asked-last 11 (omega arith) (sectionLines h p k) (section-numbered h p k) (eqb size 0)
+        (λ none. ((eqb-true size 0, eq-eqb size 0), (λ e. pos-of-ne-zero (eqb-false size 0 e), λ e. ne-eqb size 0 (λ z. omega arith))))
 
-    -- the part that an element is shown as, and where it stands
-    pub element-at : elementShown h p k i ≡ take (elementFound h p k i .length) (drop (elementFound h p k i .start) p)
-    element-at =
-        shown-at (elementLines h p k i) p (startOf p k + offsetIn (sectionAt p k) i) (sizeIn (sectionAt p k)) (elementAt (sectionAt p k) i) (λ e. element-inside h p k i e .part)
+    -- an element is found exactly if its number is below the count; else 10
+    pub element-exists : (i : ℕ) → Next (elementCount h p k .number) (elementFound h p k i .number) 10 (elementCount h p k .count ≤ i) (i < elementCount h p k .count)
+    element-exists i = asked-below 10 (omega arith) (typeLines h p k) (type-numbered h p k) (elementsIn (sectionAt p k)) i
 
-    pub element-within : elementFound h p k i .start + elementFound h p k i .length ≤ length p
-    element-within =
-        located-within (elementLines h p k i) p (startOf p k + offsetIn (sectionAt p k) i) (sizeIn (sectionAt p k)) (λ e. element-inside h p k i e .within)
+  -- "any further number .. in a refused answer is zero"
+  pub refused-zeros : (k i : ℕ)
+      → (sectionCount h p .number ≢ 0 → sectionCount h p .count ≡ 0)
+      × (sectionFound h p k .number ≢ 0 → (sectionFound h p k .start ≡ 0) × (sectionFound h p k .length ≡ 0))
+      × (elementCount h p k .number ≢ 0 → elementCount h p k .count ≡ 0)
+      × (elementFound h p k i .number ≢ 0 → (elementFound h p k i .start ≡ 0) × (elementFound h p k i .length ≡ 0))
+  refused-zeros k i = (when-refused _ _ 0, (λ r. (when-refused _ _ 0 r, when-refused _ _ 0 r)), when-refused _ _ 0, (λ r. (when-refused _ _ 0 r, when-refused _ _ 0 r)))
 
-    element-empty : (elementShown h p k i ≡ []) ↔ (elementFound h p k i .number ≢ 0)
-    element-empty =
-        shown-none (elementLines h p k i) (elementAt (sectionAt p k) i) (λ e. omega (arith, element-inside h p k i e .sized, element-inside h p k i e .long))
+  -- ── where sections lie
 
-    -- an element that is found has its type's size, and lies behind its section's header and within its section
-    pub record Within : Type 0 where
-      pub sized : elementFound h p k i .length ≡ elementSize (typeOf (sectionAt p k))
-      pub behind : sectionFound h p k .start + 4 ≤ elementFound h p k i .start
-      pub inside : elementFound h p k i .start + elementFound h p k i .length ≤ sectionFound h p k .start + sectionFound h p k .length
+  module _ (k : ℕ) (found : sectionFound h p k .number ≡ 0) where
+    section-start : sectionFound h p k .start ≡ startOf p k
+    section-start = when-none _ (startOf p k) 0 found
 
-    pub elements-within : elementFound h p k i .number ≡ 0 → Within
-    elements-within e =
-        let s = element-inside h p k i e in
-        let size = when-none (elementFound h p k i .number) (sizeIn (sectionAt p k)) 0 e in
-        let start = when-none (elementFound h p k i .number) (startOf p k + offsetIn (sectionAt p k) i) 0 e in
-        let section = when-none (sectionFound h p k .number) (startOf p k) 0 (s .found) in
-        let long = when-none (sectionFound h p k .number) (length (sectionAt p k)) 0 (s .found) in
-        record { sized = size; behind = omega (arith, start, section); inside = omega (arith, start, size, section, long, s .fits) }
+    section-length : sectionFound h p k .length ≡ length (sectionAt p k)
+    section-length = when-none _ (length (sectionAt p k)) 0 found
 
-  -- what is shown is empty exactly if it is refused
-  pub shown-empty : ((sectionShown h p k ≡ []) ↔ (sectionFound h p k .number ≢ 0)) × ((i : ℕ) → (elementShown h p k i ≡ []) ↔ (elementFound h p k i .number ≢ 0))
-  shown-empty = (section-empty, element-empty)
+  -- the first section starts the payload, each other starts where the one before it ends, and the last ends the payload
+  pub record Follow (k : ℕ) : Type 0 where
+    pub starts : k ≡ 0 → sectionFound h p k .start ≡ 0
+    pub follows : sectionFound h p (suc k) .number ≡ 0 → sectionFound h p (suc k) .start ≡ sectionFound h p k .start + sectionFound h p k .length
+    pub ends : suc k ≡ sectionCount h p .count → sectionFound h p k .start + sectionFound h p k .length ≡ length p
+
+  pub sections-follow : (k : ℕ) → sectionFound h p k .number ≡ 0 → Follow k
+  unfolding flatten
+  sections-follow k found =
+      let here = found-present h p k found in
+      let next : length (flatten (take (suc k) (sectionsOf p))) ≡ sectionFound h p k .start + sectionFound h p k .length =
+      rw (section-start k found, section-length k found) (start-next (sectionsOf p) k (here .here)) in
+      record {
+        starts = λ e. section-start k found ∙ ap (startOf p) e;
+        follows = λ e. section-start (suc k) e ∙ next;
+        ends = λ e.
+            let all : length (sectionsOf p) ≤ suc k = omega (arith, e, when-none _ (length (sectionsOf p)) 0 (here .counted)) in
+            sym next ∙ ap (λ (l : List (List ℕ)). length (flatten l)) (take-all (suc k) (sectionsOf p) all) ∙ ap length (sections-joined p);
+      }
+
+  module _ (k : ℕ) where
+    -- the part that a section is shown as, and where it stands
+    pub section-at : sectionShown h p k ≡ take (sectionFound h p k .length) (drop (sectionFound h p k .start) p)
+    section-at =
+        shown-at (sectionLines h p k) p (startOf p k) (length (sectionAt p k)) (sectionAt p k) (λ e. section-standing h p k e .part)
+
+    pub section-within : sectionFound h p k .start + sectionFound h p k .length ≤ length p
+    section-within =
+        located-within (sectionLines h p k) p (startOf p k) (length (sectionAt p k)) (λ e. section-standing h p k e .within)
+
+    section-empty : (sectionShown h p k ≡ []) ↔ (sectionFound h p k .number ≢ 0)
+    section-empty = shown-none (sectionLines h p k) (sectionAt p k) (λ e. omega (arith, section-standing h p k e .whole))
+
+    -- ── where elements lie
+
+    -- behind the header there is room for as many elements as are counted, and not for one more
+    pub elements-fill : elementCount h p k .number ≡ 0 → (size : ℕ) → size ≡ elementSize (getD (sectionAt p k) 1 0)
+        → (4 + elementCount h p k .count * size ≤ sectionFound h p k .length) × (sectionFound h p k .length < 4 + elementCount h p k .count * size + size)
+    elements-fill none size is =
+        let type = typed h p k none in
+        let whole = section-length k (type .0) ∙ section-standing h p k (type .0) .whole in
+        let count = when-none (elementCount h p k .number) (elementsIn (sectionAt p k)) 0 none in
+        rw (whole, count, is) (
+          omega (arith, div-mul-le-self (4 * getD (sectionAt p k) 0 0) (sizeIn (sectionAt p k))),
+          omega (arith, lt-div-mul-add {a = 4 * getD (sectionAt p k) 0 0} {b = sizeIn (sectionAt p k)} (type .1)),
+        )
+
+    module _ (i : ℕ) where
+      -- the part that an element is shown as, and where it stands
+      pub element-at : elementShown h p k i ≡ take (elementFound h p k i .length) (drop (elementFound h p k i .start) p)
+      element-at =
+          shown-at (elementLines h p k i) p (startOf p k + offsetIn (sectionAt p k) i) (sizeIn (sectionAt p k)) (elementAt (sectionAt p k) i) (λ e. element-inside h p k i e .part)
+
+      pub element-within : elementFound h p k i .start + elementFound h p k i .length ≤ length p
+      element-within =
+          located-within (elementLines h p k i) p (startOf p k + offsetIn (sectionAt p k) i) (sizeIn (sectionAt p k)) (λ e. element-inside h p k i e .within)
+
+      element-empty : (elementShown h p k i ≡ []) ↔ (elementFound h p k i .number ≢ 0)
+      element-empty =
+          shown-none (elementLines h p k i) (elementAt (sectionAt p k) i) (λ e. omega (arith, element-inside h p k i e .sized, element-inside h p k i e .long))
+
+      -- an element that is found has its type's size, and lies behind its section's header and the elements before it, within its section
+      pub record Within : Type 0 where
+        pub sized : elementFound h p k i .length ≡ elementSize (getD (sectionAt p k) 1 0)
+        pub placed : elementFound h p k i .start ≡ sectionFound h p k .start + (4 + i * elementFound h p k i .length)
+        pub inside : elementFound h p k i .start + elementFound h p k i .length ≤ sectionFound h p k .start + sectionFound h p k .length
+
+      pub elements-within : elementFound h p k i .number ≡ 0 → Within
+      elements-within e =
+          let s = element-inside h p k i e in
+          let size = when-none (elementFound h p k i .number) (sizeIn (sectionAt p k)) 0 e in
+          let start = when-none (elementFound h p k i .number) (startOf p k + offsetIn (sectionAt p k) i) 0 e in
+          let section = section-start k (s .found) in
+          record {
+            sized = size;
+            placed = rw (start, section, size);
+            inside = omega (arith, start, size, section, section-length k (s .found), s .fits);
+          }
+
+-- an answer shows an empty part exactly if it has a refusal's number
+pub shown-empty : (h : Header) (s : RefT (List ℕ)) (k : ℕ) (r : Shown)
+    → (Shows s (sectionFound h (now s) k) (sectionShown h (now s) k) r → (now (r .part) ≡ []) ↔ (r .number ≢ 0))
+    × ((i : ℕ) → Shows s (elementFound h (now s) k i) (elementShown h (now s) k i) r → (now (r .part) ≡ []) ↔ (r .number ≢ 0))
+shown-empty h s k r = (
+  λ is. rw (is .shown .holds, is .numbered) (section-empty h (now s) k),
+  λ i is. rw (is .shown .holds, is .numbered) (element-empty h (now s) k i),
+)

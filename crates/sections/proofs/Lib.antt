@@ -4,4 +4,5 @@ pub mod Counting
 pub mod Finding
 pub mod Elements
 pub mod Laws
+pub mod Showing
 pub mod Samples

@@ -3,7 +3,7 @@ use Prim.Native.Nat.{ℕ, zero, suc, min, _+_, _-_, _*_, _<_, _≤_}
 use native.Mathlib.Omega.{arith}
 use native.Mathlib.Numerals.{sub-one}
 use mathlib.Core.Path.{_≡_, refl, sym, ap, _∙_}
-use mathlib.Core.Logic.{_≢_}
+use mathlib.Core.Logic.{_≢_, _↔_}
 use mathlib.Core.Bool.{Bool, true, false, _||_}
 use mathlib.Core.List.{List, [], _∷_, _++_, flatten, append-assoc}
 use lib.ListN.{length, getD, take, drop, length-take, length-drop, length-append, take-append-drop}
@@ -180,6 +180,21 @@ module _ (p : List ℕ) (k : ℕ) (here : k < length (sectionsOf p)) (whole : ov
     head = λ i h. rw from-is (head-at i h);
   }
 
--- where nothing overruns, each section has exactly the bytes that its header announces
-pub section-whole : (p : List ℕ) (k : ℕ) → overrun p ≡ false → k < length (sectionsOf p) → length (sectionAt p k) ≡ sectionLength (sectionAt p k)
-section-whole p k whole here = standing p k here whole .whole
+-- each section has exactly the bytes that its header announces
+abbrev pub Whole : List ℕ → Type 0
+Whole p = (k : ℕ) → k < length (sectionsOf p) → length (sectionAt p k) ≡ 4 + 4 * getD (sectionAt p k) 0 0
+
+none-short : (l : List (List ℕ)) → ((k : ℕ) → k < length l → sectionLength (getD l k []) ≤ length (getD l k [])) → someShort l ≡ false
+unfolding someShort
+none-short [] h = refl
+none-short (s ∷ l) h = rw (le-ltb (length s) (sectionLength s) (h 0 (omega arith))) (none-short l (λ k b. h (suc k) (omega arith)))
+
+pub overrun-exactly : (p : List ℕ) → (overrun p ≡ false) ↔ Whole p
+overrun-exactly p = (λ w k here. standing p k here w .whole, λ w. none-short (sectionsOf p) (λ k here. omega (arith, w k here)))
+
+-- a section starts where the one before it ends
+pub start-next : (l : List (List ℕ)) (k : ℕ) → k < length l → length (flatten (take (suc k) l)) ≡ length (flatten (take k l)) + length (getD l k [])
+unfolding flatten
+start-next [] k h = absurd (omega arith)
+start-next (s ∷ l) zero h = omega (arith, length-append s [])
+start-next (s ∷ l) (suc k) h = omega (arith, start-next l k (omega arith), length-append s (flatten (take (suc k) l)), length-append s (flatten (take k l)))

@@ -1,6 +1,6 @@
 -- What is answered about sections and elements: document 01's refusals 8 to 11 in the stated orders, or what was asked for.
 use Prim.Native.Nat.{ℕ, _+_, _%_}
-use mathlib.Core.Bool.{Bool, _&&_, _||_, not}
+use mathlib.Core.Bool.{Bool, _||_, not}
 use mathlib.Core.List.{List, [], _∷_, _++_}
 use lib.Dec.{eqb, leb, ltb}
 use lib.ListN.{length}
@@ -14,8 +14,8 @@ use Rattle.sections.specs.declared.Part.{Part}
 -- 8: not version 0x10, destination 0x0015 and command 0x0100, or payload length not a multiple of 4 or above 508
 unfoldable pub notBlock : Header → ℕ → Bool
 notBlock header n =
-    not (eqb (header .version) 0x10 && (eqb (header .destination) 0x0015 && eqb (header .command) 0x0100))
-    || (not (eqb (n % 4) 0) || ltb 508 n)
+    not (eqb (header .version) 0x10)
+    || (not (eqb (header .destination) 0x0015) || (not (eqb (header .command) 0x0100) || (not (eqb (n % 4) 0) || ltb 508 n)))
 
 abbrev pub blockLines : Header → List ℕ → List (Bool × ℕ)
 blockLines header payload = (notBlock header (length payload), 8) ∷ (overrun payload, 9) ∷ []

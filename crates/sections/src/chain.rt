@@ -8,17 +8,13 @@ ghost use Rattle.sections.specs.Section.{sectionsOf, overrun};
 ghost use Rattle.sections.specs.Stage.{chainCount, payloadCount};
 use crate::Count;
 
-// The chain check at a section's header, with the sections counted so far. The count is handed along, so that each call is the
-// last thing done and takes no stack.
+// The chain check at a section's header. The sections counted so far are handed along, so that nothing is left to do behind a call.
 pub fn header_step(rest: &[u8], count: usize) -> Count
     requires { ⌜ count + length (now rest) ≤ 508 ⌝ }
     ensures { λ r. ⌜ r ≡ chainCount (now (rest .entry)) count ⌝ }
 {
     if rest.len() == 0 {
-        return Count {
-            number: 0,
-            count,
-        };
+        return Count { number: 0, count };
     }
     if rest.len() < 4 {
         return Count {

@@ -1,8 +1,10 @@
 // The sections and elements in the payload of a block packet.
 ghost use mathlib.Core.Path.{_≡_};
+ghost use Prim.Native.Nat.{_+_, _*_, _≤_};
+ghost use lib.ListN.{length, take, drop};
 ghost use Rattle.sections.specs.Answer.{notBlock, sectionCount, sectionFound, sectionShown, elementCount, elementFound, elementShown};
 ghost use Rattle.sections.specs.Element.{elementSize, temperatureOf};
-ghost use Rattle.sections.specs.Part.{PartOf};
+ghost use Rattle.sections.specs.Part.{PartOf, Shows};
 
 mod chain;
 
@@ -21,6 +23,12 @@ pub struct Part {
     pub number: u32,
     pub start: usize,
     pub length: usize,
+}
+
+// A part of the caller's payload, or a refusal's number and an empty part.
+pub struct Shown<'a> {
+    pub number: u32,
+    pub part: &'a [u8],
 }
 
 // A refusal, by its number.
@@ -54,10 +62,10 @@ fn not_block(header: Header, bytes: usize) -> bool
 }
 
 // The bytes of an element, by its section's type; 0 for a type that is not in the table.
-fn element_size(sort: u8) -> usize
-    ensures { λ r. ⌜ r ≡ elementSize sort ⌝ }
+fn element_size(section_type: u8) -> usize
+    ensures { λ r. ⌜ r ≡ elementSize «section_type» ⌝ }
 {
-    match sort {
+    match section_type {
         0x01 => 2,
         0x05 => 4,
         0x08 => 1,
@@ -101,14 +109,26 @@ pub fn find_section(header: Header, payload: &[u8], k: usize) -> Part
     }
 }
 
-// Section k, header and payload, as a part of the payload; empty exactly if it is refused.
-pub fn section<'a>(header: Header, payload: &'a [u8], k: usize) -> &'a [u8]
-    ensures { λ r. ⌜ PartOf (payload .entry) (sectionFound header (now (payload .entry)) k .start) (sectionShown header (now (payload .entry)) k) r ⌝ }
+// What was found, cut out of the payload.
+fn cut_out<'a>(payload: &'a [u8], found: Part) -> &'a [u8]
+    requires { ⌜ found .start + found .length ≤ length (now payload) ⌝ }
+    ensures { λ r. ⌜ PartOf (payload .entry) (found .start) (take (found .length) (drop (found .start) (now (payload .entry)))) r ⌝ }
 {
-    let part = find_section(header, payload, k);
-    let start = part.start;
-    let end = start + part.length;
+    let start = found.start;
+    let end = start + found.length;
     &payload[start..end]
+}
+
+// Section k, header and payload, as a part of the payload.
+pub fn section<'a>(header: Header, payload: &'a [u8], k: usize) -> Shown<'a>
+    ensures { λ r. ⌜ Shows (payload .entry) (sectionFound header (now (payload .entry)) k) (sectionShown header (now (payload .entry)) k) r ⌝ }
+{
+    let found = find_section(header, payload, k);
+    let part = cut_out(payload, found);
+    Shown {
+        number: found.number,
+        part,
+    }
 }
 
 // How many elements section k has.
@@ -158,21 +178,30 @@ pub fn find_element(header: Header, payload: &[u8], k: usize, i: usize) -> Part
     }
 }
 
-// The bytes of element i of section k, as a part of the payload; empty exactly if it is refused.
-pub fn element<'a>(header: Header, payload: &'a [u8], k: usize, i: usize) -> &'a [u8]
-    ensures { λ r. ⌜ PartOf (payload .entry) (elementFound header (now (payload .entry)) k i .start) (elementShown header (now (payload .entry)) k i) r ⌝ }
+// Element i of section k, as a part of the payload.
+pub fn element<'a>(header: Header, payload: &'a [u8], k: usize, i: usize) -> Shown<'a>
+    ensures { λ r. ⌜ Shows (payload .entry) (elementFound header (now (payload .entry)) k i) (elementShown header (now (payload .entry)) k i) r ⌝ }
 {
     let found = find_element(header, payload, k, i);
-    let start = found.start;
-    let end = start + found.length;
-    &payload[start..end]
+    let part = cut_out(payload, found);
+    Shown {
+        number: found.number,
+        part,
+    }
+}
+
+// The number of two bytes.
+fn word_of(low: u8, high: u8) -> u16
+    ensures { λ r. ⌜ r ≡ low + 256 * high ⌝ }
+{
+    (low as u16) + 256 * (high as u16)
 }
 
 // A temperature: an element's two bytes as a signed number.
 pub fn temperature(bytes: [u8; 2]) -> i16
     ensures { λ r. ⌜ r ≡ temperatureOf bytes ⌝ }
 {
-    let word = (bytes[0] as u16) + 256 * (bytes[1] as u16);
+    let word = word_of(bytes[0], bytes[1]);
     if word < 0x8000 {
         word as i16
     } else {

@@ -5,8 +5,9 @@ use mathlib.Core.Path.{_≡_, ap, _∙_}
 use lib.ListN.{length}
 use Rattle.sections.specs.Section.{sectionAt}
 use Rattle.sections.specs.Element.{elementSize, sizeIn}
+use Rattle.sections.specs.Answer.{elementFound}
 use Rattle.sections.specs.declared.Part.{Part}
-use Rattle.sections.proofs.Elements.{Seen, seen, Inside, element-refused, element-missing, element-fits, element-room, element-here}
+use Rattle.sections.proofs.Elements.{Seen, seen, Inside, element-refused, element-missing, element-fits, element-here}
 use borrow.Author.Needs.{needs}
 use Rattle.sections.proofs.find_element.Statement.{statement}
 use Rattle.sections.proofs.find_element.Tie as tie
@@ -22,7 +23,7 @@ returns c =
     let a = c .before .before .before .before .before .args in
     let elements = c .before .before .before .element-count in
     c .refused .ensures
-    ∙ element-refused (a .header) (a .payload .now) (a .k) (a .i) (elements .result) (elements .ensures) (c .before .if1 .taken)
+    ∙ element-refused (a .header) (a .payload .now) (a .k) (a .i) (elements .result) (elements .ensures) (λ e. omega arith)
 
 refused-requires-2 : tie.Need-refused-requires-2
 refused-requires-2 c κs = search needs
@@ -32,7 +33,7 @@ returns-2 c =
     let a = c .before .before .before .before .before .before .before .args in
     let elements = c .before .before .before .before .before .element-count in
     c .refused2 .ensures
-    ∙ element-missing (a .header) (a .payload .now) (a .k) (a .i) (elements .result) (elements .ensures) (c .before .before .before .if1 .left) (c .before .if2 .taken)
+    ∙ element-missing (a .header) (a .payload .now) (a .k) (a .i) (elements .result) (elements .ensures) (omega arith) (omega arith)
 
 find-section-requires : tie.Need-find-section-requires
 find-section-requires c κs = search needs
@@ -71,31 +72,30 @@ element-size-requires c κs = search needs
 sized : (c : tie.After-element-size) → c .element-size .result ≡ sizeIn (sectionAt (start (c .before .before .before .before) .args .payload .now) (start (c .before .before .before .before) .args .k))
 sized c = c .element-size .ensures ∙ ap elementSize (header (c .before .before .before) .byte 1 (omega arith))
 
-room : (c : tie.After-element-size)
-    → c .before .before .before .find-section .result .start + (4 + start (c .before .before .before .before) .args .i * c .element-size .result) + c .element-size .result ≤ length (start (c .before .before .before .before) .args .payload .now)
-room c =
-    let known = c .before .before .before .before in
-    let a = start known .args in
-    let elements = known .before .before .before .before .element-count in
-    element-room (a .header) (a .payload .now) (a .k) (a .i) (elements .result) (elements .ensures) (known .before .before .if1 .left) (known .if2 .left)
-    _ _ (header (c .before .before .before) .is) (sized c)
-
-mul-t12 : tie.Need-mul-t12
-mul-t12 c = omega (arith, room c)
-
-add-t16 : tie.Need-add-t16
-add-t16 c = omega (arith, room c)
-
-add-t17 : tie.Need-add-t17
-add-t17 c = omega (arith, room c)
-
-returns-3 : tie.Need-returns-3
-returns-3 c =
+here : (c : tie.After-element-size)
+    → let known = c .before .before .before in
+    let a = start (known .before) .args in
+    let size = c .element-size .result in
+    let at = known .find-section .result .start + (4 + a .i * size) in
+    (at + size ≤ length (a .payload .now)) × (record { number = 0; start = at; length = size } ≡ elementFound (a .header) (a .payload .now) (a .k) (a .i))
+here c =
     let known = c .before .before .before .before in
     let a = start known .args in
     let elements = known .before .before .before .before .element-count in
     element-here (a .header) (a .payload .now) (a .k) (a .i) (elements .result) (elements .ensures) (known .before .before .if1 .left) (known .if2 .left)
     _ _ (header (c .before .before .before) .is) (sized c)
+
+mul-t12 : tie.Need-mul-t12
+mul-t12 c = omega (arith, here c .0)
+
+add-t16 : tie.Need-add-t16
+add-t16 c = omega (arith, here c .0)
+
+add-t17 : tie.Need-add-t17
+add-t17 c = omega (arith, here c .0)
+
+returns-3 : tie.Need-returns-3
+returns-3 c = here c .1
 
 pub find-element-spec : {M : Type 1} → statement M
 find-element-spec =

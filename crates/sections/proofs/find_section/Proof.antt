@@ -19,7 +19,7 @@ returns c =
     let a = c .before .before .before .before .before .args in
     let sections = c .before .before .before .section-count in
     c .refused .ensures
-    ∙ find-refused (a .header) (a .payload .now) (a .k) (sections .result) (sections .ensures) (c .before .if1 .taken)
+    ∙ find-refused (a .header) (a .payload .now) (a .k) (sections .result) (sections .ensures) (λ e. omega arith)
 
 refused-requires-2 : tie.Need-refused-requires-2
 refused-requires-2 c κs = search needs
@@ -29,7 +29,7 @@ returns-2 c =
     let a = c .before .before .before .before .before .before .before .args in
     let sections = c .before .before .before .before .before .section-count in
     c .refused2 .ensures
-    ∙ find-missing (a .header) (a .payload .now) (a .k) (sections .result) (sections .ensures) (c .before .before .before .if1 .left) (c .before .if2 .taken)
+    ∙ find-missing (a .header) (a .payload .now) (a .k) (sections .result) (sections .ensures) (c .before .before .before .if1 .left) (omega arith)
 
 abbrev start : tie.Else2 → tie.Start
 start c = c .before .before .before .before .before .before
@@ -39,7 +39,7 @@ there : (c : tie.Else2) → Present (start c .args .header) (start c .args .payl
 there c =
     let a = start c .args in
     let sections = c .before .before .before .before .section-count in
-    find-present (a .header) (a .payload .now) (a .k) (sections .result) (sections .ensures) (c .before .before .if1 .left) (c .if2 .left)
+    find-present (a .header) (a .payload .now) (a .k) (sections .result) (sections .ensures) (c .before .before .if1 .left) (omega arith)
 
 from-section-requires : tie.Need-from-section-requires
 from-section-requires c κs = (there c .near, (there c .here, there c .whole))

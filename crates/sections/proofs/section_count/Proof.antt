@@ -2,7 +2,7 @@
 use mathlib.Core.Path.{sym, _∙_}
 use native.Mathlib.Omega.{arith}
 use lib.ListN.{length}
-use Rattle.sections.proofs.Finding.{block-room, block-counted, block-refused}
+use Rattle.sections.proofs.Finding.{block-exactly, block-counted, block-refused}
 use borrow.Author.Needs.{needs}
 use Rattle.sections.proofs.section_count.Statement.{statement}
 use Rattle.sections.proofs.section_count.Tie as tie
@@ -18,7 +18,7 @@ returns c =
 header-step-requires : tie.Need-header-step-requires
 header-step-requires c κs =
     let a = c .before .before .before .args in
-    omega (arith, block-room (a .header) (length (a .payload .now)) (sym (c .before .not-block .ensures) ∙ c .if1 .left))
+    omega (arith, block-exactly (a .header) (length (a .payload .now)) .0 (sym (c .before .not-block .ensures) ∙ c .if1 .left) .room)
 
 returns-2 : tie.Need-returns-2
 returns-2 c =

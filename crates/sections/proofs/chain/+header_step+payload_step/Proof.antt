@@ -6,9 +6,11 @@ use native.Mathlib.Omega.{arith}
 use mathlib.Core.Path.{sym, ap, _∙_}
 use mathlib.Core.List.{List}
 use lib.ListN.{length, getD, length-drop}
-use Rattle.sections.specs.Stage.{chainCount, payloadCount}
+use borrow.Author.Tests.{lt-ltb, le-ltb}
+use Rattle.basics.specs.Choice.{choose}
+use Rattle.sections.specs.Stage.{payloadCount}
 use Rattle.basics.proofs.Over.{part}
-use Rattle.sections.proofs.Counting.{chain-end, chain-short, chain-step, payload-short, payload-step}
+use Rattle.sections.proofs.Counting.{chain-end, chain-short, chain-step}
 use borrow.Fn.Kinds.{In, Out}
 use borrow.Fn.PlainCycle.{Measures, is, falls, and}
 use Rattle.sections.proofs.chain.header_step.Reads as header
@@ -92,9 +94,8 @@ header-returns-3 t c =
     ∙ sym (chain-step p (a .count) (omega arith))
 
 payload-returns : payload-asks payload-lts.Need-returns
-payload-returns t c =
-    let a = c .before .before .args in
-    sym (payload-short (a .rest .now) (a .size) (a .count) (c .if1 .taken))
+unfolding choose
+payload-returns t c = rw (lt-ltb _ _ (c .if1 .taken))
 
 payload-sub-header-step : payload-asks payload-lts.Need-sub-header-step
 payload-sub-header-step t c = search needs
@@ -112,11 +113,11 @@ payload-header-step-requires t c κs =
     (omega (arith, a .pre .0, ap length (part p (a .args .size)), length-drop (a .args .size) p), omega (arith, a .pre .1, ap length (part p (a .args .size)), length-drop (a .args .size) p))
 
 payload-returns-2 : payload-asks payload-lts.Need-returns-2
+unfolding choose
 payload-returns-2 t c =
     let a = c .before .before .before .before .args in
     c .header-step .ensures
-    ∙ ap (λ (l : List ℕ). chainCount l (a .count)) (part (a .rest .now) (a .size))
-    ∙ sym (payload-step (a .rest .now) (a .size) (a .count) (omega arith))
+    ∙ rw (part (a .rest .now) (a .size), le-ltb (length (a .rest .now)) (a .size) (omega arith))
 
 pub +header-step+payload-step-spec : {M : Type 1} → statement M
 +header-step+payload-step-spec =
