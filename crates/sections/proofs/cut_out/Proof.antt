@@ -1,6 +1,8 @@
 -- `cut_out` meets its contract: what is handed over lies in the payload. Assumes nothing.
+use Prim.Native.Nat.{ℕ}
 use native.Mathlib.Nat.{add-sub-cancel-left}
-use mathlib.Core.Path.{refl}
+use mathlib.Core.Path.{refl, ap}
+use lib.ListN.{take, drop}
 use borrow.Author.Needs.{needs}
 use Rattle.sections.proofs.cut_out.Statement.{statement}
 use Rattle.sections.proofs.cut_out.Tie as tie
@@ -19,8 +21,9 @@ part-result-end c = search needs
 
 returns : tie.Need-returns
 returns c =
-    let found = c .before .before .args .found in
-    record { holds = rw (add-sub-cancel-left (found .start) (found .length)); stands = refl }
+    let a = c .before .before .args in
+    let start = a .found .start in
+    record { holds = ap (λ (n : ℕ). take n (drop start (a .payload .now))) (add-sub-cancel-left start (a .found .length)); stands = refl }
 
 pub cut-out-spec : {M : Type 1} → statement M
 cut-out-spec = tie.close (tie.spec add-end sub-result part-result-start part-result-end returns)
