@@ -65,9 +65,18 @@ datagram-0023 : without 0x20 0x23 ≡ ascii "D ABCD EF01 20 0023\n"
 unfolding lineOf headHex payloadHex commandHex kindOf choose
 datagram-0023 = refl
 
-telegram-7F : without 0x31 0x7F ≡ ascii "T ABCD EF01 31 7F\n"
+telegram-FF : without 0x31 0xFF ≡ ascii "T ABCD EF01 31 FF\n"
 unfolding lineOf headHex payloadHex commandHex kindOf choose
-telegram-7F = refl
+telegram-FF = refl
+
+-- what no delivered record has
+telegram-0100 : without 0x30 0x0100 ≡ ascii "T ABCD EF01 30 0100\n"
+unfolding lineOf headHex payloadHex commandHex kindOf choose
+telegram-0100 = refl
+
+unknown-0023 : without 0x99 0x23 ≡ ascii "? ABCD EF01 99 0023\n"
+unfolding lineOf headHex payloadHex commandHex kindOf choose
+unknown-0023 = refl
 
 -- the room that a line of 18 bytes needs
 shortest : Record

@@ -1,5 +1,6 @@
 // A recording as text: a line for each record.
 ghost use mathlib.Core.Path.{_≡_};
+ghost use denote.Ref.{ptr};
 ghost use lib.ListN.{length};
 ghost use Rattle.basics.specs.Bytes.{over};
 ghost use Rattle.listing.specs.Line.{listedOf, outputAfter};
@@ -61,10 +62,11 @@ fn list(input: &[u8], out: &mut [u8]) -> usize
     all::lines(input, out)
 }
 
-// What the lister prints for a recording: the bytes, written to the start of `out` and handed back.
-// None are if `out` has fewer than ROOM bytes. `out` is lent for as long as the result is looked at.
+// What the lister prints for a recording: the bytes, at the start of `out`; none if `out` has fewer than ROOM bytes.
+// The result borrows `out`, and no clause can speak of a buffer that is still lent: what it holds is told of the result.
 pub fn output<'a>(input: &[u8], out: &'a mut [u8]) -> &'a [u8]
     ensures { λ r. ⌜ now r ≡ shownOf (now (input .entry)) (length (now (out .entry))) ⌝ }
+    ensures { λ r. ⌜ ptr r ≡ ptr (out .entry) ⌝ }
 {
     let length = list(input, out);
     let all = &out[..];

@@ -1,6 +1,7 @@
 -- `output` meets its contract: the part that is handed back is what was written. Assumes nothing.
 use native.Mathlib.Omega.{arith}
-use native.Mathlib.Nat.{sub-zero}
+use Prim.Native.Nat.{ℕ}
+use native.Mathlib.Nat.{zero-add, sub-zero}
 use mathlib.Core.Path.{ap, sym, _∙_}
 use lib.ListN.{length, take, drop, length-append}
 use lib.Seq.{take-at}
@@ -31,7 +32,7 @@ returns c =
     let args = list .before .before .before .before .args in
     let shown = shownOf (args .input .now) (length (args .out .now)) in
     let n = list .list .result in
-    rw sub-zero (ap (take n) (list .list .ensures .1) ∙ take-at shown (drop (length shown) (args .out .now)) n (sym (list .list .ensures .0)))
+    (rw sub-zero (ap (take n) (list .list .ensures .1) ∙ take-at shown (drop (length shown) (args .out .now)) n (sym (list .list .ensures .0))), ap (λ (n : ℕ). (args .out .ptr .0, n)) (zero-add (args .out .ptr .1)))
 
 pub output-spec : {M : Type 1} → statement M
 output-spec =
