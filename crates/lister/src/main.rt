@@ -1,4 +1,4 @@
-// Lists a recording from standard input to standard output: all that it decides is `listing::output`.
+// Lists a recording from standard input to standard output: all that it decides is `listing::list`.
 use libc::STDIN_FILENO;
 use libc::STDOUT_FILENO;
 use listing::MOST;
@@ -9,5 +9,6 @@ fn main() {
     let mut input = [0u8; MOST + 1];
     let mut out = [0u8; ROOM];
     let size = io::read_full(STDIN_FILENO, &mut input);
-    io::write_all(STDOUT_FILENO, listing::output(&input[..size], &mut out));
+    let written = listing::list(&input[..size], &mut out);
+    io::write_all(STDOUT_FILENO, listing::written_text(&out, written));
 }

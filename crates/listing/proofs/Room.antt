@@ -4,8 +4,10 @@ use native.Mathlib.Omega.{arith}
 use mathlib.Core.Path.{_≡_, refl, ap}
 use mathlib.Core.Bool.{true≢false}
 use mathlib.Core.List.{List}
-use borrow.Author.Tests.{lt-ltb}
-use lib.ListN.{length, drop, length-append}
+use borrow.Author.Tests.{lt-ltb, le-ltb}
+use lib.ListN.{length, take, drop, length-append}
+use lib.Seq.{take-append-seam}
+use Rattle.basics.specs.Choice.{choose}
 use Rattle.stream.specs.Layout.{headerLength, frameWidth, payloadLength}
 use Rattle.stream.specs.Validation.{validationOf}
 use Rattle.stream.specs.declared.Kind.{Kind}
@@ -19,7 +21,7 @@ use Rattle.recording.specs.Recording.{deliveriesAfter, contentsOf}
 use Rattle.recording.proofs.Deliveries.{after-ind}
 use Rattle.recording.proofs.Normalizing.{normalized-shorter}
 use Rattle.listing.specs.Line.{commandHex, payloadHex, lineOf}
-use Rattle.listing.specs.Listing.{linesOf, listingOf}
+use Rattle.listing.specs.Listing.{linesOf, listingOf, outputOf, printRefusal, printedOf, printedAfter}
 use Rattle.listing.proofs.Lines.{command-byte, length-command, length-payloadHex, length-head, length-line}
 
 -- the lengths of a line's parts and of the stream, by the kind
@@ -51,3 +53,8 @@ listing-room s =
     omega (arith, rest, line-room r (whole-writable (drop q s) whole), length-append (lineOf r) (linesOf more), length-append (streamOf r) (streams more)))
     0 in
     omega (arith, lines, normalized-shorter s)
+
+-- what the program prints: `written_text` of what `list` answers and leaves in an output with room
+pub lister-prints : (s out : List ℕ) → 147456 ≤ length out → take (printedOf s (length out) .length) (printedAfter s out) ≡ outputOf s
+unfolding printRefusal choose
+lister-prints s out room = rw (le-ltb (length out) 147456 room) (take-append-seam (outputOf s) (drop (length (outputOf s)) out))

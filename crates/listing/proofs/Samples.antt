@@ -13,7 +13,7 @@ use Rattle.record.specs.Record.{Record, recordOf, commandIn, payloadIn, unframe
 use Rattle.recording.specs.Recording.{deliveriesFrom}
 use Rattle.text.specs.Ascii.{ascii}
 use Rattle.listing.specs.Line.{bytesHex, commandHex, payloadHex, headHex, lineOf, listedOf, outputAfter}
-use Rattle.listing.specs.Listing.{linesOf, listingOf, outputOf, shownOf}
+use Rattle.listing.specs.Listing.{linesOf, listingOf, outputOf, printRefusal, printedOf}
 
 -- AA 11 44 10 66 10 00 02 01 21 07 04 0F 00 00 65
 p1 : List ℕ
@@ -42,13 +42,13 @@ one-more : (s : List ℕ) → length s ≡ 65537 → outputOf s ≡ ascii "too l
 unfolding choose
 one-more s sized = rw sized
 
--- a buffer of 147,456 bytes is handed back as far as it is written, and a shorter one not at all
-room-enough : (s : List ℕ) → shownOf s 147456 ≡ outputOf s
-unfolding choose
+-- an output of 147,456 bytes has room for all, and a shorter one is refused
+room-enough : (s : List ℕ) → printedOf s 147456 ≡ record { number = 0; length = length (outputOf s) }
+unfolding choose printRefusal
 room-enough s = refl
 
-room-less : (s : List ℕ) → shownOf s 147455 ≡ []
-unfolding choose
+room-less : (s : List ℕ) → printedOf s 147455 ≡ record { number = 5; length = 0 }
+unfolding choose printRefusal
 room-less s = refl
 
 -- a line with no payload, which ends after the command

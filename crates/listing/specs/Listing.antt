@@ -3,7 +3,9 @@ use Prim.Native.Nat.{ℕ}
 use mathlib.Core.List.{List, [], _∷_, _++_}
 use lib.Dec.{ltb}
 use lib.ListN.{length}
-use Rattle.basics.specs.Choice.{choose}
+use Rattle.basics.specs.Choice.{choose, first}
+use Rattle.basics.specs.declared.Written.{Written}
+use Rattle.basics.specs.Output.{answered, outputWith}
 use Rattle.text.specs.Ascii.{ascii}
 use Rattle.record.specs.Record.{Record}
 use Rattle.recording.specs.Recording.{records}
@@ -21,6 +23,13 @@ listingOf s = linesOf (records s)
 abbrev pub outputOf : List ℕ → List ℕ
 outputOf s = choose (ltb 65536 (length s)) (ascii "too long\n") (listingOf s)
 
--- what is handed back of a buffer of the given room: nothing if it has fewer than 147,456 bytes, which hold every output
-abbrev pub shownOf : List ℕ → ℕ → List ℕ
-shownOf s room = choose (ltb room 147456) [] (outputOf s)
+-- 5: the output has fewer than 147,456 bytes, which hold all that can be printed
+unfoldable pub printRefusal : ℕ → ℕ
+printRefusal room = first ((ltb room 147456, 5) ∷ [])
+
+-- what is answered for an output of the given room, and the output afterwards
+abbrev pub printedOf : List ℕ → ℕ → Written
+printedOf s room = answered (printRefusal room) (outputOf s)
+
+abbrev pub printedAfter : List ℕ → List ℕ → List ℕ
+printedAfter s out = outputWith (printRefusal (length out)) (outputOf s) out

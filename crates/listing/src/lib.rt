@@ -1,10 +1,9 @@
 // A recording as text: a line for each record.
 ghost use mathlib.Core.Path.{_≡_};
 ghost use denote.Ref.{ptr};
-ghost use lib.ListN.{length};
-ghost use Rattle.basics.specs.Bytes.{over};
+ghost use lib.ListN.{length, take};
 ghost use Rattle.listing.specs.Line.{listedOf, outputAfter};
-ghost use Rattle.listing.specs.Listing.{shownOf};
+ghost use Rattle.listing.specs.Listing.{printedOf, printedAfter};
 
 mod all;
 mod write;
@@ -48,27 +47,36 @@ pub fn line(header: Header, payload: &[u8], out: &mut [u8]) -> Written
     }
 }
 
-// Writes what the lister prints to the start of `out`, and returns how many bytes that is.
-fn list(input: &[u8], out: &mut [u8]) -> usize
-    ensures { λ r. ⌜ r ≡ length (shownOf (now (input .entry)) (length (now (out .entry)))) ⌝ }
-    ensures { λ r. ⌜ now (out .exit) ≡ over (shownOf (now (input .entry)) (length (now (out .entry)))) (now (out .entry)) ⌝ }
+// Writes what the lister prints for a recording to the start of `out`: the listing, or `too long`.
+// 5: `out` has fewer than ROOM bytes; then every byte of it stays as it was.
+pub fn list(input: &[u8], out: &mut [u8]) -> Written
+    ensures { λ r. ⌜ r ≡ printedOf (now (input .entry)) (length (now (out .entry))) ⌝ }
+    ensures { λ r. ⌜ now (out .exit) ≡ printedAfter (now (input .entry)) (now (out .entry)) ⌝ }
 {
     if out.len() < ROOM {
-        return 0;
+        return TOO_SHORT;
     }
     if input.len() > MOST {
-        return bytes::copy(b"too long\n", out);
+        return Written {
+            number: 0,
+            length: bytes::copy(b"too long\n", out),
+        };
     }
-    all::lines(input, out)
+    Written {
+        number: 0,
+        length: all::lines(input, out),
+    }
 }
 
-// What the lister prints for a recording: the bytes, at the start of `out`; none if `out` has fewer than ROOM bytes.
-// The result borrows `out`, and no clause can speak of a buffer that is still lent: what it holds is told of the result.
-pub fn output<'a>(input: &[u8], out: &'a mut [u8]) -> &'a [u8]
-    ensures { λ r. ⌜ now r ≡ shownOf (now (input .entry)) (length (now (out .entry))) ⌝ }
+// The bytes of an output that an answer says were written, or all where there are fewer: so that a program that prints them has
+// nothing to count.
+pub fn written_text<'a>(out: &'a [u8], written: Written) -> &'a [u8]
+    ensures { λ r. ⌜ now r ≡ take (written .length) (now (out .entry)) ⌝ }
     ensures { λ r. ⌜ ptr r ≡ ptr (out .entry) ⌝ }
 {
-    let length = list(input, out);
-    let all = &out[..];
-    &all[0..length]
+    let length = written.length;
+    if length <= out.len() {
+        return &out[0..length];
+    }
+    out
 }

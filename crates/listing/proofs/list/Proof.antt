@@ -1,15 +1,21 @@
 -- `list` meets its contract: the room suffices for every listing. Assumes nothing.
 use native.Mathlib.Omega.{arith}
-use mathlib.Core.Path.{refl}
+use Prim.Native.Nat.{ℕ}
+use mathlib.Core.Path.{refl, ap}
 use borrow.Author.Tests.{lt-ltb, le-ltb}
 use Rattle.basics.specs.Choice.{choose}
+use Rattle.basics.specs.declared.Written.{Written}
+use Rattle.listing.specs.Listing.{printRefusal}
 use Rattle.listing.proofs.Room.{listing-room}
 use borrow.Author.Needs.{needs}
 use Rattle.listing.proofs.list.Statement.{statement}
 use Rattle.listing.proofs.list.Tie as tie
 
+abbrev answer : ℕ → Written
+answer n = record { number = 0; length = n }
+
 returns : tie.Need-returns
-unfolding choose
+unfolding choose printRefusal
 returns c = rw (lt-ltb _ _ (c .if1 .taken)) (refl, refl)
 
 slice-aggregate-copy : tie.Need-slice-aggregate-copy
@@ -22,11 +28,11 @@ same-length : tie.Need-same-length
 same-length c = search needs
 
 returns-2 : tie.Need-returns-2
-unfolding choose
+unfolding choose printRefusal
 returns-2 c =
     let copy = c .before .before in
     let test = copy .before .before .before in
-    rw (le-ltb _ _ (test .before .if1 .left), lt-ltb _ _ (test .if2 .taken)) (copy .copy .ensures)
+    rw (le-ltb _ _ (test .before .if1 .left), lt-ltb _ _ (test .if2 .taken)) (ap answer (copy .copy .ensures .0), copy .copy .ensures .1)
 
 lines-requires : tie.Need-lines-requires
 lines-requires c κs =
@@ -37,11 +43,11 @@ same-length-2 : tie.Need-same-length-2
 same-length-2 c = search needs
 
 returns-3 : tie.Need-returns-3
-unfolding choose
+unfolding choose printRefusal
 returns-3 c =
     let lines = c .before .before in
     let test = lines .before .before in
-    rw (le-ltb _ _ (test .before .if1 .left), le-ltb _ _ (test .if2 .left)) (lines .lines .ensures)
+    rw (le-ltb _ _ (test .before .if1 .left), le-ltb _ _ (test .if2 .left)) (ap answer (lines .lines .ensures .0), lines .lines .ensures .1)
 
 pub list-spec : {M : Type 1} → statement M
 list-spec =
