@@ -41,10 +41,8 @@ pub fn line(header: Header, payload: &[u8], out: &mut [u8]) -> Written
     write::head(kind, header, out);
     write::payload(payload, &mut out[head..]);
     bytes::copy(b"\n", &mut out[end..]);
-    Written {
-        number: 0,
-        length: end + 1,
-    }
+    let length = end + 1;
+    Written { number: 0, length }
 }
 
 // Writes what the lister prints for a recording to the start of `out`: the listing, or `too long`.

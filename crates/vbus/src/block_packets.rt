@@ -31,7 +31,12 @@ pub extern "C" fn vbus_element_count(header: Header, payload: &[u8], section: us
 
 // Where an element of a section stands in the payload.
 #[no_mangle]
-pub extern "C" fn vbus_element(header: Header, payload: &[u8], section: usize, element: usize) -> Part
+pub extern "C" fn vbus_element(
+    header: Header,
+    payload: &[u8],
+    section: usize,
+    element: usize,
+) -> Part
     ensures { λ r. ⌜ r ≡ elementFound header (now (payload .entry)) section element ⌝ }
 {
     sections::find_element(header, payload, section, element)

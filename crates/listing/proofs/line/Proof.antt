@@ -92,8 +92,8 @@ part-copy-end c = search needs
 copy-requires : tie.Need-copy-requires
 copy-requires c κs = search needs
 
-add-t9 : tie.Need-add-t9
-add-t9 c = search needs
+add-length : tie.Need-add-length
+add-length c = search needs
 
 same-length : tie.Need-same-length
 same-length c = search needs
@@ -139,6 +139,6 @@ line-spec =
     part-copy-start
     part-copy-end
     copy-requires
-    add-t9
+    add-length
     same-length
     returns-3)
