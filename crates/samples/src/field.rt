@@ -11,14 +11,13 @@ pub fn say(word: &[u8]) {
     text(word);
 }
 
-// One of two words.
-pub fn tell(yes: bool, word: &[u8], other: &[u8]) {
-    if yes { say(word) } else { say(other) }
-}
-
-fn word(word: u16) {
-    let digits = text::hex_word(word);
-    say(&digits);
+// A word, if two slices are the same.
+pub fn same(a: &[u8], b: &[u8], word: &[u8]) {
+    if check::same(a, b) {
+        say(word);
+    } else {
+        say(b"changed");
+    }
 }
 
 // A byte as two digits, with no space before it.
@@ -48,26 +47,34 @@ pub fn bytes(bytes: &[u8]) {
     }
 }
 
-fn decimal(n: u64) {
+fn word(word: u16) {
+    let digits = text::hex_word(word);
+    say(&digits);
+}
+
+// A header and a payload.
+pub fn record(header: Header, payload: &[u8]) {
+    byte(header.version);
+    word(header.destination);
+    word(header.source);
+    word(header.command);
+    bytes(payload);
+}
+
+// A number behind a space, or behind a space and a letter or a sign.
+pub fn number(before: &[u8], n: u64) {
+    text(before);
     io::print_decimal(STDOUT_FILENO, n);
 }
 
 // A length, a count or a place.
 pub fn size(n: usize) {
-    text(b" ");
-    decimal(n as u64);
+    number(b" ", n as u64);
 }
 
 // A refusal's number, or 0.
-pub fn refusal(number: u32) {
-    text(b" ");
-    decimal(number as u64);
-}
-
-// V0 to V7.
-pub fn verdict(number: u8) {
-    text(b" V");
-    decimal(number as u64);
+pub fn refusal(n: u32) {
+    number(b" ", n as u64);
 }
 
 fn magnitude(n: i32) -> u64 {
@@ -79,16 +86,9 @@ fn magnitude(n: i32) -> u64 {
 }
 
 pub fn signed(n: i32) {
-    text(b" ");
     if n < 0 {
-        text(b"-");
+        number(b" -", magnitude(n));
+    } else {
+        number(b" ", magnitude(n));
     }
-    decimal(magnitude(n));
-}
-
-pub fn header(header: Header) {
-    byte(header.version);
-    word(header.destination);
-    word(header.source);
-    word(header.command);
 }

@@ -4,7 +4,7 @@ use crate::parts::behind;
 use crate::parts::first;
 use basics::Written;
 
-// No answer holds this byte behind its end.
+// No call writes this byte behind its answer's end.
 pub fn untouched() -> [u8; 800] {
     [0xEE; 800]
 }
@@ -21,11 +21,7 @@ pub fn lent(out: &mut [u8], room: usize) -> &mut [u8] {
 // Whether the bytes behind the first are untouched.
 pub fn kept(out: &[u8], count: usize) {
     let before = untouched();
-    field::tell(
-        check::same(behind(out, count), behind(&before, count)),
-        b"kept",
-        b"changed",
-    );
+    field::same(behind(out, count), behind(&before, count), b"kept");
 }
 
 // The number, how many bytes were written, these, and whether the rest was kept.
