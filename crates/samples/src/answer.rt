@@ -1,45 +1,17 @@
-// What is asked of the library, and the fields of each answer.
+// The fields of the answers.
 use crate::field;
-use crate::output::kept;
-use crate::output::lent;
-use crate::output::untouched;
-use crate::output::written;
-use crate::parts::behind;
-use crate::parts::byte;
-use crate::parts::first;
+use crate::part::behind;
+use crate::part::first;
+use basics::Written;
 use record::Header;
-use recording::Found;
-use sections::Count;
-use sections::Part;
-use septet::Septets;
-
-pub fn checksum(block: &[u8]) {
-    field::byte(checksum::checksum(block));
-}
 
 // The number, all seven bytes, the length and the septet.
-fn septets(answer: Septets) {
+pub fn septets(answer: septet::Septets) {
     let bytes = answer.bytes;
     field::refusal(answer.number);
     field::bytes(&bytes);
-    field::size(answer.length);
+    field::number(answer.length);
     field::byte(answer.septet);
-}
-
-fn seven(s: &[u8]) -> [u8; 7] {
-    let mut block = [0u8; 7];
-    if s.len() <= 7 {
-        bytes::copy(s, &mut block);
-    }
-    block
-}
-
-pub fn extract(block: &[u8], used: usize) {
-    septets(septet::extract(seven(block), used));
-}
-
-pub fn inject(block: &[u8], used: usize, septet: u8) {
-    septets(septet::inject(seven(block), used, septet));
 }
 
 // The record of a whole stream, and whether writing it gives these bytes again.
@@ -55,11 +27,39 @@ fn again(stream: &[u8]) {
 
 pub fn validate(bytes: &[u8]) {
     let answer = stream::validate(bytes);
-    field::number(b" V", answer.verdict as u64);
-    field::size(answer.offset);
+    field::verdict(answer.verdict);
+    field::number(answer.offset);
     if answer.verdict == 0 {
         again(first(bytes, answer.offset));
     }
+}
+
+// An output, of bytes that no call writes behind its answer's end.
+fn untouched() -> [u8; 800] {
+    [0xEE; 800]
+}
+
+// The first bytes of an output, or all where there are no more.
+fn lent(out: &mut [u8], room: usize) -> &mut [u8] {
+    if room <= out.len() {
+        &mut out[0..room]
+    } else {
+        out
+    }
+}
+
+// Whether the bytes of an output behind the first are untouched.
+fn kept(out: &[u8], count: usize) {
+    let before = untouched();
+    field::same(behind(out, count), behind(&before, count), b"kept");
+}
+
+// The number, how many bytes were written, these, and whether the rest was kept.
+fn written(answer: Written, out: &[u8]) {
+    field::refusal(answer.number);
+    field::number(answer.length);
+    field::bytes(first(out, answer.length));
+    kept(out, answer.length);
 }
 
 pub fn encode(header: Header, payload: &[u8], room: usize) {
@@ -73,7 +73,7 @@ pub fn long_packet(header: Header, payload: &[u8]) {
     let mut out = untouched();
     let answer = record::encode(header, payload, &mut out);
     field::refusal(answer.number);
-    field::size(answer.length);
+    field::number(answer.length);
     let mut back = [0u8; 508];
     let found = recording::next(&out, 0, &mut back);
     field::same(first(&back, found.payload_length), payload, b"ok");
@@ -91,19 +91,11 @@ pub fn row(header: Header, payload: &[u8]) {
     field::signed(record::value(back));
 }
 
-pub fn value(payload: &[u8]) {
-    let mut six = [0u8; 6];
-    if payload.len() <= 6 {
-        bytes::copy(payload, &mut six);
-    }
-    field::signed(record::value(six));
-}
-
 // The place and the length of a record that was found, and the record; or that there is none.
-fn found(answer: Found, payload: &[u8]) {
+fn found(answer: recording::Found, payload: &[u8]) {
     if answer.found {
-        field::size(answer.place);
-        field::size(answer.length);
+        field::number(answer.place);
+        field::number(answer.length);
         field::record(answer.header, payload);
     } else if answer.number == 0 {
         field::say(b"none");
@@ -113,10 +105,9 @@ fn found(answer: Found, payload: &[u8]) {
 pub fn next(recording: &[u8], start: usize, room: usize) {
     let mut out = untouched();
     let answer = recording::next(recording, start, lent(&mut out, room));
-    let count = answer.payload_length;
     field::refusal(answer.number);
-    found(answer, first(&out, count));
-    kept(&out, count);
+    found(answer, first(&out, answer.payload_length));
+    kept(&out, answer.payload_length);
 }
 
 pub fn normalize(recording: &[u8], room: usize) {
@@ -125,35 +116,21 @@ pub fn normalize(recording: &[u8], room: usize) {
     written(answer, &out);
 }
 
-fn counted(answer: Count) {
+pub fn count(answer: sections::Count) {
     field::refusal(answer.number);
-    field::size(answer.count);
+    field::number(answer.count);
 }
 
 // The number, the start and the length, and the bytes that stand there.
-fn part(answer: Part, payload: &[u8]) {
+pub fn place(answer: sections::Part, payload: &[u8]) {
     field::refusal(answer.number);
-    field::size(answer.start);
-    field::size(answer.length);
+    field::number(answer.start);
+    field::number(answer.length);
     field::bytes(first(behind(payload, answer.start), answer.length));
 }
 
-pub fn section_count(header: Header, payload: &[u8]) {
-    counted(sections::section_count(header, payload));
-}
-
-pub fn section(header: Header, payload: &[u8], k: usize) {
-    part(sections::find_section(header, payload, k), payload);
-}
-
-pub fn element_count(header: Header, payload: &[u8], k: usize) {
-    counted(sections::element_count(header, payload, k));
-}
-
-pub fn element(header: Header, payload: &[u8], k: usize, i: usize) {
-    part(sections::find_element(header, payload, k, i), payload);
-}
-
 pub fn temperature(bytes: &[u8]) {
-    field::signed(sections::temperature([byte(bytes, 0), byte(bytes, 1)]) as i32);
+    let low = crate::part::byte(bytes, 0);
+    let high = crate::part::byte(bytes, 1);
+    field::signed(sections::temperature([low, high]) as i32);
 }

@@ -61,20 +61,23 @@ pub fn record(header: Header, payload: &[u8]) {
     bytes(payload);
 }
 
-// A number behind a space, or behind a space and a letter or a sign.
-pub fn number(before: &[u8], n: u64) {
+fn decimal(before: &[u8], n: u64) {
     text(before);
     io::print_decimal(STDOUT_FILENO, n);
 }
 
-// A length, a count or a place.
-pub fn size(n: usize) {
-    number(b" ", n as u64);
+pub fn number(n: usize) {
+    decimal(b" ", n as u64);
 }
 
 // A refusal's number, or 0.
 pub fn refusal(n: u32) {
-    number(b" ", n as u64);
+    decimal(b" ", n as u64);
+}
+
+// V0 to V7.
+pub fn verdict(n: u8) {
+    decimal(b" V", n as u64);
 }
 
 fn magnitude(n: i32) -> u64 {
@@ -87,8 +90,8 @@ fn magnitude(n: i32) -> u64 {
 
 pub fn signed(n: i32) {
     if n < 0 {
-        number(b" -", magnitude(n));
+        decimal(b" -", magnitude(n));
     } else {
-        number(b" ", magnitude(n));
+        decimal(b" ", magnitude(n));
     }
 }
