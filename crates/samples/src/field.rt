@@ -1,9 +1,8 @@
 // The fields of a line, a space before each, written to standard output one by one.
-use libc::STDOUT_FILENO;
 use record::Header;
 
 pub fn text(text: &[u8]) {
-    io::write_all(STDOUT_FILENO, text);
+    io::write_all(libc::STDOUT_FILENO, text);
 }
 
 pub fn say(word: &[u8]) {
@@ -61,23 +60,14 @@ pub fn record(header: Header, payload: &[u8]) {
     bytes(payload);
 }
 
-fn decimal(before: &[u8], n: u64) {
+// A number behind a space, or behind a space and a letter or a sign.
+pub fn decimal(before: &[u8], n: u64) {
     text(before);
-    io::print_decimal(STDOUT_FILENO, n);
+    io::print_decimal(libc::STDOUT_FILENO, n);
 }
 
-pub fn number(n: usize) {
-    decimal(b" ", n as u64);
-}
-
-// A refusal's number, or 0.
-pub fn refusal(n: u32) {
-    decimal(b" ", n as u64);
-}
-
-// V0 to V7.
-pub fn verdict(n: u8) {
-    decimal(b" V", n as u64);
+pub fn number(n: u64) {
+    decimal(b" ", n);
 }
 
 fn magnitude(n: i32) -> u64 {
@@ -92,6 +82,6 @@ pub fn signed(n: i32) {
     if n < 0 {
         decimal(b" -", magnitude(n));
     } else {
-        decimal(b" ", magnitude(n));
+        number(magnitude(n));
     }
 }

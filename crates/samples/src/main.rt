@@ -21,8 +21,8 @@ const HEAD: usize = 16;
 
 // The fields behind the name.
 fn fields(question: &[u8], bytes: &[u8]) {
-    let n = part::number(question, 6);
-    let m = part::number(question, 8);
+    let n = part::word(question, 6) as usize;
+    let m = part::word(question, 8) as usize;
     let header = part::header(question);
     match part::byte(question, 0) {
         b'c' => field::byte(checksum::checksum(bytes)),
@@ -45,7 +45,7 @@ fn fields(question: &[u8], bytes: &[u8]) {
 }
 
 fn line(question: &[u8]) {
-    let name = part::number(question, 2);
+    let name = part::word(question, 2) as usize;
     let rest = part::behind(question, HEAD);
     field::text(part::first(rest, name));
     fields(question, part::behind(rest, name));
@@ -58,7 +58,7 @@ fn line_at(input: &[u8], at: usize) -> usize
     ensures { λ r. ⌜ at < r ⌝ }
 {
     let rest = &input[at..];
-    let size = HEAD + part::number(rest, 2) + part::number(rest, 4);
+    let size = HEAD + (part::word(rest, 2) as usize) + (part::word(rest, 4) as usize);
     if rest.len() < size {
         field::text(b"cut off\n");
         return input.len();

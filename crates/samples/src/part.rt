@@ -1,10 +1,13 @@
 // What stands in a slice, whatever its length: no caller has to prove that there is as much.
-ghost use Prim.Native.Nat.{_<_};
 use record::Header;
 
 // The first bytes, or all where there are no more.
 pub fn first(s: &[u8], count: usize) -> &[u8] {
     if count <= s.len() { &s[0..count] } else { s }
+}
+
+pub fn first_mut(s: &mut [u8], n: usize) -> &mut [u8] {
+    if n <= s.len() { &mut s[0..n] } else { s }
 }
 
 // What stands behind the first bytes, or all where there are no more.
@@ -17,18 +20,10 @@ pub fn byte(s: &[u8], at: usize) -> u8 {
     if at < s.len() { s[at] } else { 0 }
 }
 
-// Two bytes of a head, the low one first.
-fn word(s: &[u8], at: usize) -> u16
-    requires { ⌜ at < 16 ⌝ }
-{
-    (byte(s, at) as u16) + 256 * (byte(s, at + 1) as u16)
-}
-
-pub fn number(s: &[u8], at: usize) -> usize
-    requires { ⌜ at < 16 ⌝ }
-    ensures { λ r. ⌜ r < 65536 ⌝ }
-{
-    word(s, at) as usize
+// Two bytes, the low one first.
+pub fn word(s: &[u8], at: usize) -> u16 {
+    let rest = behind(s, at);
+    (byte(rest, 0) as u16) + 256 * (byte(rest, 1) as u16)
 }
 
 // The header in a head.
@@ -41,7 +36,6 @@ pub fn header(s: &[u8]) -> Header {
     }
 }
 
-// A datagram's payload.
 pub fn six(s: &[u8]) -> [u8; 6] {
     let mut payload = [0u8; 6];
     if s.len() <= 6 {
@@ -50,7 +44,6 @@ pub fn six(s: &[u8]) -> [u8; 6] {
     payload
 }
 
-// A block of septets.
 pub fn seven(s: &[u8]) -> [u8; 7] {
     let mut block = [0u8; 7];
     if s.len() <= 7 {
