@@ -20,10 +20,10 @@ LINES = []
 def ask(letter, name, data, *fields, first=0, second=0, header=(0, 0, 0, 0)):
     """A question, and the line that answers it: its name, and the fields that are not empty.
 
-    A question is a head of 15 bytes, the name and the data. The head: the letter, the length of the name, and in two bytes each, low byte
-    first, the length of the data, two numbers and, behind the version's one byte, destination, source and command.
+    A question is a head of 16 bytes, the name and the data. The head: the letter, a byte (the version of a header, or a septet), and in two
+    bytes each, low byte first, the lengths of the name and the data, two numbers, and the destination, the source and the command.
     """
-    head = struct.pack("<cBHHHBHHH", letter.encode(), len(name), len(data), first, second, *header)
+    head = struct.pack("<cB7H", letter.encode(), header[0], len(name), len(data), first, second, *header[1:])
     QUESTIONS.append(head + name.encode() + data)
     LINES.append(" ".join(str(f) for f in (name, *fields) if f != ""))
 
@@ -42,9 +42,9 @@ def checksum(name, text, number):
     ask("c", name, block, "%02X" % number)
 
 
-def septets(letter, name, data, length, answer):
+def septets(letter, name, data, length, answer, given=0):
     number, block, count, septet = answer
-    ask(letter, name, data, number, hexed(block), count, "%02X" % septet, first=length)
+    ask(letter, name, data, number, hexed(block), count, "%02X" % septet, first=length, header=(given, 0, 0, 0))
 
 
 def extract(name, text, length):
@@ -54,7 +54,7 @@ def extract(name, text, length):
 
 def inject(name, text, length, septet):
     block = bytes.fromhex(text)
-    septets("j", name, block + bytes([septet]), length, rules.inject(block, length, septet))
+    septets("j", name, block, length, rules.inject(block, length, septet), septet)
 
 
 def one(name, text, verdict, offset, payload=None):

@@ -1,9 +1,8 @@
 // The fields of a line, a space before each, written to standard output one by one.
-use libc::STDOUT_FILENO;
 use record::Header;
 
 pub fn text(text: &[u8]) {
-    io::write_all(STDOUT_FILENO, text);
+    io::write_all(libc::STDOUT_FILENO, text);
 }
 
 pub fn say(word: &[u8]) {
@@ -11,14 +10,13 @@ pub fn say(word: &[u8]) {
     text(word);
 }
 
-// One of two words.
-pub fn tell(yes: bool, word: &[u8], other: &[u8]) {
-    if yes { say(word) } else { say(other) }
-}
-
-fn word(word: u16) {
-    let digits = text::hex_word(word);
-    say(&digits);
+// A word, if two slices are the same.
+pub fn same(a: &[u8], b: &[u8], word: &[u8]) {
+    if check::same(a, b) {
+        say(word);
+    } else {
+        say(b"changed");
+    }
 }
 
 // A byte as two digits, with no space before it.
@@ -48,26 +46,28 @@ pub fn bytes(bytes: &[u8]) {
     }
 }
 
-fn decimal(n: u64) {
-    io::print_decimal(STDOUT_FILENO, n);
+fn word(word: u16) {
+    let digits = text::hex_word(word);
+    say(&digits);
 }
 
-// A length, a count or a place.
-pub fn size(n: usize) {
-    text(b" ");
-    decimal(n as u64);
+// A header and a payload.
+pub fn record(header: Header, payload: &[u8]) {
+    byte(header.version);
+    word(header.destination);
+    word(header.source);
+    word(header.command);
+    bytes(payload);
 }
 
-// A refusal's number, or 0.
-pub fn refusal(number: u32) {
-    text(b" ");
-    decimal(number as u64);
+// A number behind a space, or behind a space and a letter or a sign.
+pub fn decimal(before: &[u8], n: u64) {
+    text(before);
+    io::print_decimal(libc::STDOUT_FILENO, n);
 }
 
-// V0 to V7.
-pub fn verdict(number: u8) {
-    text(b" V");
-    decimal(number as u64);
+pub fn number(n: u64) {
+    decimal(b" ", n);
 }
 
 fn magnitude(n: i32) -> u64 {
@@ -79,16 +79,9 @@ fn magnitude(n: i32) -> u64 {
 }
 
 pub fn signed(n: i32) {
-    text(b" ");
     if n < 0 {
-        text(b"-");
+        decimal(b" -", magnitude(n));
+    } else {
+        number(magnitude(n));
     }
-    decimal(magnitude(n));
-}
-
-pub fn header(header: Header) {
-    byte(header.version);
-    word(header.destination);
-    word(header.source);
-    word(header.command);
 }

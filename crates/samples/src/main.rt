@@ -1,93 +1,81 @@
-// Answers the questions of standard input, with a line for each. tests/samples.py writes both the questions and the lines that must come
-// out, from the papers and never from what this program prints; a new sample is a call there, and no code here.
+// Answers the questions of standard input, with a line for each. tests/samples.py writes the questions, and from the papers the lines that
+// must come out: a sample is a call there, and no code here.
 //
-// A question is a head, the name of its line, and bytes. The head has 15 bytes; of each number of two bytes, the low byte comes first:
+// A question is a head of 16 bytes, the name of its line, and the bytes that it is about. In the head, numbers of two bytes have the low
+// byte first, and what isn't asked for is zero:
 //
-//     0   a letter, for what is asked (`answer`)
-//     1   the length of the name
-//     2   the length of the bytes, in two bytes
-//     4   a number, in two bytes: a length, a start, an index, or the room of an output
-//     6   a second one: a septet, an index, or the room of an output
-//     8   a record's header: version, and in two bytes each destination, source and command
-//
-// What a letter doesn't use is zero, and the bytes are a block, a stream, a payload or a recording.
+//     0           a letter: what is asked (`fields`)
+//     1           a header's version, or a septet
+//     2, 4        the lengths of the name and of the bytes
+//     6, 8        two numbers: a length, a start, an index, an output's room
+//     10, 12, 14  a header's destination, source and command
 ghost use Prim.Native.Nat.{_<_};
 ghost use lib.ListN.{length};
 
-mod block_packets;
-mod blocks;
+mod answer;
 mod field;
-mod output;
-mod parts;
-mod question;
-mod recordings;
-mod records;
-mod streams;
+mod part;
 
-use libc::STDIN_FILENO;
-use parts::behind;
-use parts::first;
-use question::HEAD;
-use question::Head;
+// The length of a head.
+const HEAD: usize = 16;
 
-// The questions' length is below this: what doesn't fit is not read.
-const MOST: usize = 65536;
-
-// The fields of an answer.
-fn fields(letter: u8, head: Head, bytes: &[u8]) {
-    match letter {
-        b'c' => blocks::checksum(bytes),
-        b'x' => blocks::extract(bytes, head.first),
-        b'j' => blocks::inject(bytes, head.first),
-        b'v' => streams::validate(bytes),
-        b'e' => records::encode(head.header, bytes, head.first),
-        b'l' => records::long_packet(head.header, bytes),
-        b'r' => records::row(head.header, bytes),
-        b'i' => records::value(bytes),
-        b'n' => recordings::next(bytes, head.first, head.second),
-        b'z' => recordings::normalize(bytes, head.first),
-        b's' => block_packets::section_count(head.header, bytes),
-        b'S' => block_packets::section(head.header, bytes, head.first),
-        b'm' => block_packets::element_count(head.header, bytes, head.first),
-        b'M' => block_packets::element(head.header, bytes, head.first, head.second),
-        b't' => block_packets::temperature(bytes),
+// The fields behind the name.
+fn fields(question: &[u8], bytes: &[u8]) {
+    let n = part::word(question, 6) as usize;
+    let m = part::word(question, 8) as usize;
+    let header = part::header(question);
+    match part::byte(question, 0) {
+        b'c' => field::byte(checksum::checksum(bytes)),
+        b'x' => answer::septets(septet::extract(part::seven(bytes), n)),
+        b'j' => answer::septets(septet::inject(part::seven(bytes), n, header.version)),
+        b'v' => answer::validate(bytes),
+        b'e' => answer::encode(header, bytes, n),
+        b'l' => answer::long_packet(header, bytes),
+        b'r' => answer::row(header, bytes),
+        b'i' => field::signed(record::value(part::six(bytes))),
+        b'n' => answer::next(bytes, n, m),
+        b'z' => answer::normalize(bytes, n),
+        b's' => answer::count(sections::section_count(header, bytes)),
+        b'S' => answer::place(sections::find_section(header, bytes, n), bytes),
+        b'm' => answer::count(sections::element_count(header, bytes, n)),
+        b'M' => answer::place(sections::find_element(header, bytes, n, m), bytes),
+        b't' => answer::temperature(bytes),
         _ => field::say(b"unknown"),
     }
 }
 
-// The line of one question.
-fn answer(question: &[u8]) {
-    let head = question::read(question);
-    let rest = behind(question, HEAD);
-    field::text(first(rest, head.name));
-    fields(head.letter, head, behind(rest, head.name));
+fn line(question: &[u8]) {
+    let name = part::word(question, 2) as usize;
+    let rest = part::behind(question, HEAD);
+    field::text(part::first(rest, name));
+    fields(question, part::behind(rest, name));
     field::text(b"\n");
 }
 
 // Answers the question at a place, and gives the place behind it: the end of the input, where the question is cut off.
-fn answer_at(input: &[u8], at: usize) -> usize
+fn line_at(input: &[u8], at: usize) -> usize
     requires { ⌜ at < length (now input) ⌝ }
     ensures { λ r. ⌜ at < r ⌝ }
 {
     let rest = &input[at..];
-    let size = question::size(rest);
+    let size = HEAD + (part::word(rest, 2) as usize) + (part::word(rest, 4) as usize);
     if rest.len() < size {
         field::text(b"cut off\n");
         return input.len();
     }
-    answer(&rest[0..size]);
+    line(&rest[0..size]);
     at + size
 }
 
-fn answer_all(input: &[u8]) {
+fn lines(input: &[u8]) {
     let mut at = 0;
     while at < input.len() {
-        at = answer_at(input, at);
+        at = line_at(input, at);
     }
 }
 
 fn main() {
-    let mut input = [0u8; MOST];
-    let size = io::read_full(STDIN_FILENO, &mut input);
-    answer_all(&input[..size]);
+    let mut input = [0u8; 65536];
+    let size = io::read_full(libc::STDIN_FILENO, &mut input);
+    lines(&input[..size]);
 }

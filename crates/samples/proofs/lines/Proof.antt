@@ -1,10 +1,10 @@
--- `samples::answer_all` is safe and ends: each question moves on, and the measure is what is left of the input. Assumes nothing.
+-- `samples::lines` is safe and ends: each question moves on, and the measure is what is left of the input. Assumes nothing.
 use Prim.Native.Nat.{_-_}
 use native.Mathlib.Omega.{arith}
 use lib.ListN.{length}
 use borrow.Author.Needs.{needs}
-use Rattle.samples.proofs.answer_all.Statement.{statement}
-use Rattle.samples.proofs.answer_all.Tie as tie
+use Rattle.samples.proofs.lines.Statement.{statement}
+use Rattle.samples.proofs.lines.Tie as tie
 
 abbrev Inv-loop : tie.InvT-loop
 Inv-loop input at₀ at = Unit {0}
@@ -15,8 +15,8 @@ abbrev μ-loop : tie.MeasureT-loop
 loop-holds : tie.Need-loop-holds Inv-loop μ-loop
 loop-holds c = search needs
 
-answer-at-requires : tie.Need-answer-at-requires Inv-loop μ-loop
-answer-at-requires c κs = search needs
+line-at-requires : tie.Need-line-at-requires Inv-loop μ-loop
+line-at-requires c κs = search needs
 
 loop-less : tie.Need-loop-less Inv-loop μ-loop
 loop-less c = omega arith
@@ -27,6 +27,6 @@ loop-again c = search needs
 returns : tie.Need-returns Inv-loop μ-loop
 returns c = search needs
 
-pub answer-all-spec : {M : Type 1} → statement M
-answer-all-spec =
-    tie.close (tie.spec Inv-loop μ-loop loop-holds answer-at-requires loop-less loop-again returns)
+pub lines-spec : {M : Type 1} → statement M
+lines-spec =
+    tie.close (tie.spec Inv-loop μ-loop loop-holds line-at-requires loop-less loop-again returns)

@@ -1,10 +1,10 @@
--- `samples::block_packets::temperature` is safe: a number of 16 bits fits 32. Assumes nothing.
+-- `samples::answer::temperature` is safe: a number of 16 bits fits 32. Assumes nothing.
 use mir.Syntax.{w16}
 use mir.Val.{SFits}
 use mir.Facts.{sfits-widen, toZ-ofZ}
 use borrow.Author.Needs.{needs}
-use Rattle.samples.proofs.block_packets.temperature.Statement.{statement}
-use Rattle.samples.proofs.block_packets.temperature.Tie as tie
+use Rattle.samples.proofs.answer.temperature.Statement.{statement}
+use Rattle.samples.proofs.answer.temperature.Tie as tie
 
 byte-requires : tie.Need-byte-requires
 byte-requires c κs = search needs
