@@ -2,8 +2,8 @@
 use Prim.Native.Nat.{ℕ, _<_}
 use native.Mathlib.Omega.{arith}
 use mathlib.Core.Path.{_≡_, refl, sym, _∙_}
-use mathlib.Core.Logic.{_≢_}
-use mathlib.Core.Bool.{Bool, true, false}
+use mathlib.Core.Logic.{_≢_, _↔_}
+use mathlib.Core.Bool.{Bool, true, false, true≢false}
 use mathlib.Core.List.{List, [], _∷_, _++_}
 use lib.Dec.{eqb}
 use borrow.Author.Tests.{eq-eqb, ne-eqb}
@@ -28,7 +28,7 @@ first-next [] more n e = refl
 first-next ((true, number) ∷ rest) more n e = absurd (omega arith)
 first-next ((false, number) ∷ rest) more n e = first-next rest more (n .1) e
 
--- no line applies in two tables exactly if none does in either
+-- where no line of two tables applies, none of either does
 pub first-none : (lines more : List (Bool × ℕ)) → Numbered lines → first (lines ++ more) ≡ 0 → (first lines ≡ 0) × (first more ≡ 0)
 unfolding choose
 first-none [] more n e = (refl, e)
@@ -79,3 +79,29 @@ module _ (lines : List (Bool × ℕ)) (test : Bool) (number : ℕ) where
       pub last-free : test ≡ false → first longer ≡ 0
       unfolding choose
       last-free e = last-decides ∙ rw e
+
+-- ── exactly
+
+through : {A B C : Type 0} → A ↔ B → B ↔ C → A ↔ C
+through f g = (λ a. g .0 (f .0 a), λ c. f .1 (g .1 c))
+
+-- a refusal that is asked for after others: those come first, and where none is given, this one is, exactly if it applies
+pub record AskedLast (before after number : ℕ) (applies passes : Type 0) : Type 0 where
+  pub kept : before ≢ 0 → after ≡ before
+  pub refused : before ≡ 0 → (after ≡ number) ↔ applies
+  pub given : before ≡ 0 → (after ≡ 0) ↔ passes
+
+module _ (number : ℕ) (pos : 0 < number) where
+  chosen : (test : Bool) → ((choose test number 0 ≡ number) ↔ (test ≡ true)) × ((choose test number 0 ≡ 0) ↔ (test ≡ false))
+  unfolding choose
+  chosen true = ((λ e. refl, λ e. refl), (λ e. absurd (omega arith), λ e. absurd (true≢false e)))
+  chosen false = ((λ e. absurd (omega arith), λ e. absurd (true≢false (sym e))), (λ e. refl, λ e. refl))
+
+  pub asked-last : (lines : List (Bool × ℕ)) → Numbered lines → (test : Bool) {applies passes : Type 0}
+      → (first lines ≡ 0 → ((test ≡ true) ↔ applies) × ((test ≡ false) ↔ passes))
+      → AskedLast (first lines) (first (lines ++ ((test, number) ∷ []))) number applies passes
+  asked-last lines numbered test means = record {
+    kept = λ r. last-unasked lines test number (first lines) refl r;
+    refused = λ none. rw (last-decides lines test number numbered none) (through (chosen test .0) (means none .0));
+    given = λ none. rw (last-decides lines test number numbered none) (through (chosen test .1) (means none .1));
+  }

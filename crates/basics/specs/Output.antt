@@ -1,4 +1,4 @@
--- What is answered by a function that writes to a lent output, and what the output holds afterwards.
+-- What is answered by a function that only writes to a lent output, and what a lent output holds afterwards.
 use Prim.Native.Nat.{ℕ}
 use mathlib.Core.Bool.{Bool}
 use mathlib.Core.List.{List, [], _∷_}

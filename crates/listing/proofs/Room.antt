@@ -20,19 +20,19 @@ use Rattle.recording.specs.Normalize.{streams}
 use Rattle.recording.specs.Recording.{deliveriesAfter, contentsOf}
 use Rattle.recording.proofs.Deliveries.{after-ind}
 use Rattle.recording.proofs.Normalizing.{normalized-shorter}
-use Rattle.listing.specs.Line.{commandHex, payloadHex, lineOf}
-use Rattle.listing.specs.Listing.{linesOf, listingOf, outputOf, printRefusal, printedOf, printedAfter}
-use Rattle.listing.proofs.Lines.{command-byte, length-command, length-payloadHex, length-head, length-line}
+use Rattle.listing.specs.Line.{hexCommand, hexPayload, lineOf}
+use Rattle.listing.specs.Listing.{linesOf, listingOf, outputOf, listRefusal, listedOf, listedAfter}
+use Rattle.listing.proofs.Lines.{command-byte, length-command, length-hexPayload, length-head, length-line}
 
 -- the lengths of a line's parts and of the stream, by the kind
 room-as : (K : Kind) (r : Record) → Carried K r → (n : ℕ) → n ≡ headerLength K + (frameWidth K + 2) * framesIn K r
-    → 4 * (16 + length (commandHex K (r .header .command)) + length (payloadHex (r .payload))) ≤ 9 * n
+    → 4 * (16 + length (hexCommand K (r .header .command)) + length (hexPayload (r .payload))) ≤ 9 * n
 unfolding headerLength frameWidth payloadLength framesOf
-room-as Packet r carried n e = omega (arith, carried .sized, length-command Packet (r .header .command), length-payloadHex (r .payload))
-room-as Datagram r carried n e = omega (arith, carried .sized, length-command Datagram (r .header .command), length-payloadHex (r .payload))
+room-as Packet r carried n e = omega (arith, carried .sized, length-command Packet (r .header .command), length-hexPayload (r .payload))
+room-as Datagram r carried n e = omega (arith, carried .sized, length-command Datagram (r .header .command), length-hexPayload (r .payload))
 room-as Telegram r carried n e =
     omega
-    (arith, carried .sized, ap length (command-byte Telegram (r .header .command) (lt-ltb (r .header .command) 256 (omega (arith, carried .command)))), length-payloadHex (r .payload))
+    (arith, carried .sized, ap length (command-byte Telegram (r .header .command) (lt-ltb (r .header .command) 256 (omega (arith, carried .command)))), length-hexPayload (r .payload))
 room-as Unknown r carried n e = absurd (true≢false (carried .known))
 
 pub line-room : (r : Record) → Writable r → 4 * length (lineOf r) ≤ 9 * length (streamOf r)
@@ -55,6 +55,6 @@ listing-room s =
     omega (arith, lines, normalized-shorter s)
 
 -- what the program prints: `written_text` of what `list` answers and leaves in an output with room
-pub lister-prints : (s out : List ℕ) → 147456 ≤ length out → take (printedOf s (length out) .length) (printedAfter s out) ≡ outputOf s
-unfolding printRefusal choose
+pub lister-prints : (s out : List ℕ) → 147456 ≤ length out → take (listedOf s (length out) .length) (listedAfter s out) ≡ outputOf s
+unfolding listRefusal choose
 lister-prints s out room = rw (le-ltb (length out) 147456 room) (take-append-seam (outputOf s) (drop (length (outputOf s)) out))

@@ -12,8 +12,8 @@ use Rattle.stream.specs.Validation.{frameRule, headerRule, ruleAt, breach, faul
 use Rattle.record.specs.Record.{Record, recordOf, commandIn, payloadIn, unframed}
 use Rattle.recording.specs.Recording.{deliveriesFrom}
 use Rattle.text.specs.Ascii.{ascii}
-use Rattle.listing.specs.Line.{bytesHex, commandHex, payloadHex, headHex, lineOf, listedOf, outputAfter}
-use Rattle.listing.specs.Listing.{linesOf, listingOf, outputOf, printRefusal, printedOf}
+use Rattle.listing.specs.Line.{hexBytes, hexCommand, hexPayload, hexHead, lineOf, lineWritten, lineAfter}
+use Rattle.listing.specs.Listing.{linesOf, listingOf, outputOf, listRefusal, listedOf}
 
 -- AA 11 44 10 66 10 00 02 01 21 07 04 0F 00 00 65
 p1 : List ℕ
@@ -30,7 +30,7 @@ t2 = 0xAA ∷ 0x31 ∷ 0x77 ∷ 0x10 ∷ 0x20 ∷ 0x30 ∷ 0x23 ∷ 0x54 ∷ 0x3
 -- fed P1, D1, T2 one after the other, the whole output is these three lines
 example : outputOf (p1 ++ (d1 ++ t2))
     ≡ ascii "P 4411 6610 10 0200 07040F00\n" ++ (ascii "D 0020 1911 20 0100 000000000000\n" ++ ascii "T 7731 2010 30 23 38900DB6C62300\n")
-unfolding p1 d1 t2 linesOf lineOf headHex payloadHex commandHex bytesHex deliveriesFrom recordOf commandIn payloadIn unframed withTopBits validationFrom streamLength kindOf choose headerLength frameWidth frameCount faultAt breach ruleAt headerRule frameRule checksumFrom
+unfolding p1 d1 t2 linesOf lineOf hexHead hexPayload hexCommand hexBytes deliveriesFrom recordOf commandIn payloadIn unframed withTopBits validationFrom streamLength kindOf choose headerLength frameWidth frameCount faultAt breach ruleAt headerRule frameRule checksumFrom
 example = refl
 
 -- 65,536 bytes are listed, and one more is too long
@@ -43,12 +43,12 @@ unfolding choose
 one-more s sized = rw sized
 
 -- an output of 147,456 bytes has room for all, and a shorter one is refused
-room-enough : (s : List ℕ) → printedOf s 147456 ≡ record { number = 0; length = length (outputOf s) }
-unfolding choose printRefusal
+room-enough : (s : List ℕ) → listedOf s 147456 ≡ record { number = 0; length = length (outputOf s) }
+unfolding choose listRefusal
 room-enough s = refl
 
-room-less : (s : List ℕ) → printedOf s 147455 ≡ record { number = 5; length = 0 }
-unfolding choose printRefusal
+room-less : (s : List ℕ) → listedOf s 147455 ≡ record { number = 5; length = 0 }
+unfolding choose listRefusal
 room-less s = refl
 
 -- a line with no payload, which ends after the command
@@ -58,42 +58,42 @@ without version command =
 
 -- a packet's and a datagram's command takes four digits, a telegram's two
 packet-0023 : without 0x10 0x23 ≡ ascii "P ABCD EF01 10 0023\n"
-unfolding lineOf headHex payloadHex commandHex kindOf choose
+unfolding lineOf hexHead hexPayload hexCommand kindOf choose
 packet-0023 = refl
 
 datagram-0023 : without 0x20 0x23 ≡ ascii "D ABCD EF01 20 0023\n"
-unfolding lineOf headHex payloadHex commandHex kindOf choose
+unfolding lineOf hexHead hexPayload hexCommand kindOf choose
 datagram-0023 = refl
 
 telegram-FF : without 0x31 0xFF ≡ ascii "T ABCD EF01 31 FF\n"
-unfolding lineOf headHex payloadHex commandHex kindOf choose
+unfolding lineOf hexHead hexPayload hexCommand kindOf choose
 telegram-FF = refl
 
 -- what no delivered record has
 telegram-0100 : without 0x30 0x0100 ≡ ascii "T ABCD EF01 30 0100\n"
-unfolding lineOf headHex payloadHex commandHex kindOf choose
+unfolding lineOf hexHead hexPayload hexCommand kindOf choose
 telegram-0100 = refl
 
 unknown-0023 : without 0x99 0x23 ≡ ascii "? ABCD EF01 99 0023\n"
-unfolding lineOf headHex payloadHex commandHex kindOf choose
+unfolding lineOf hexHead hexPayload hexCommand kindOf choose
 unknown-0023 = refl
 
 -- the room that a line of 18 bytes needs
 shortest : Record
 shortest = record { header = record { version = 0x30; destination = 0; source = 0; command = 0 }; payload = [] }
 
-room-18 : listedOf shortest 18 ≡ record { number = 0; length = 18 }
-unfolding shortest roomRefusal lineOf headHex payloadHex commandHex kindOf choose
+room-18 : lineWritten shortest 18 ≡ record { number = 0; length = 18 }
+unfolding shortest roomRefusal lineOf hexHead hexPayload hexCommand kindOf choose
 room-18 = refl
 
-room-17 : listedOf shortest 17 ≡ record { number = 5; length = 0 }
-unfolding shortest roomRefusal lineOf headHex payloadHex commandHex kindOf choose
+room-17 : lineWritten shortest 17 ≡ record { number = 5; length = 0 }
+unfolding shortest roomRefusal lineOf hexHead hexPayload hexCommand kindOf choose
 room-17 = refl
 
-output-20 : outputAfter shortest (replicate 20 0xEE) ≡ lineOf shortest ++ (0xEE ∷ 0xEE ∷ [])
-unfolding shortest roomRefusal lineOf headHex payloadHex commandHex kindOf choose
+output-20 : lineAfter shortest (replicate 20 0xEE) ≡ lineOf shortest ++ (0xEE ∷ 0xEE ∷ [])
+unfolding shortest roomRefusal lineOf hexHead hexPayload hexCommand kindOf choose
 output-20 = refl
 
-output-17 : outputAfter shortest (replicate 17 0xEE) ≡ replicate 17 0xEE
-unfolding shortest roomRefusal lineOf headHex payloadHex commandHex kindOf choose
+output-17 : lineAfter shortest (replicate 17 0xEE) ≡ replicate 17 0xEE
+unfolding shortest roomRefusal lineOf hexHead hexPayload hexCommand kindOf choose
 output-17 = refl

@@ -8,16 +8,16 @@ use Rattle.basics.specs.Choice.{choose}
 use Rattle.basics.specs.declared.Written.{Written}
 use Rattle.basics.specs.Output.{answeredFor, outputFor}
 use Rattle.text.specs.Ascii.{ascii}
-use Rattle.text.specs.Hex.{byteHex, wordHex}
+use Rattle.text.specs.Hex.{hexByte, hexWord}
 use Rattle.stream.specs.Layout.{kindOf}
 use Rattle.stream.specs.declared.Kind.{Kind}
 use Rattle.stream.specs.declared.Kind.the-variants.{Packet, Datagram, Telegram, Unknown}
 use Rattle.record.specs.declared.Header.{Header}
 use Rattle.record.specs.Record.{Record}
 
-unfoldable pub bytesHex : List ℕ → List ℕ
-bytesHex [] = []
-bytesHex (byte ∷ rest) = byteHex byte ++ bytesHex rest
+unfoldable pub hexBytes : List ℕ → List ℕ
+hexBytes [] = []
+hexBytes (byte ∷ rest) = hexByte byte ++ hexBytes rest
 
 -- the kind letter; a question mark for a version of no kind, which no delivered record has
 abbrev pub letter : Kind → ℕ
@@ -33,34 +33,34 @@ isByte Datagram command = false
 isByte Telegram command = ltb command 256
 isByte Unknown command = false
 
-unfoldable pub commandHex : Kind → ℕ → List ℕ
-commandHex K command = choose (isByte K command) (byteHex command) (wordHex command)
+unfoldable pub hexCommand : Kind → ℕ → List ℕ
+hexCommand K command = choose (isByte K command) (hexByte command) (hexWord command)
 
 -- one space between: before each field but the first
 abbrev pub spaced : List ℕ → List ℕ
 spaced field = code " " ∷ field
 
 -- with an empty payload the line ends after the command
-unfoldable pub payloadHex : List ℕ → List ℕ
-payloadHex [] = []
-payloadHex (byte ∷ rest) = spaced (bytesHex (byte ∷ rest))
+unfoldable pub hexPayload : List ℕ → List ℕ
+hexPayload [] = []
+hexPayload (byte ∷ rest) = spaced (hexBytes (byte ∷ rest))
 
 -- kind letter, destination, source, version
-abbrev pub fieldsHex : Kind → Header → List ℕ
-fieldsHex K h = letter K ∷ (spaced (wordHex (h .destination)) ++ (spaced (wordHex (h .source)) ++ spaced (byteHex (h .version))))
+abbrev pub hexFields : Kind → Header → List ℕ
+hexFields K h = letter K ∷ (spaced (hexWord (h .destination)) ++ (spaced (hexWord (h .source)) ++ spaced (hexByte (h .version))))
 
 -- then the command
-unfoldable pub headHex : Kind → Header → List ℕ
-headHex K h = fieldsHex K h ++ spaced (commandHex K (h .command))
+unfoldable pub hexHead : Kind → Header → List ℕ
+hexHead K h = hexFields K h ++ spaced (hexCommand K (h .command))
 
 -- then the payload, and a newline
 unfoldable pub lineOf : Record → List ℕ
-lineOf r = headHex (kindOf (r .header .version)) (r .header) ++ (payloadHex (r .payload) ++ ascii "\n")
+lineOf r = hexHead (kindOf (r .header .version)) (r .header) ++ (hexPayload (r .payload) ++ ascii "\n")
 
 -- what is answered for an output of the given room; 5: it is shorter than the line
-abbrev pub listedOf : Record → ℕ → Written
-listedOf r room = answeredFor (lineOf r) room
+abbrev pub lineWritten : Record → ℕ → Written
+lineWritten r room = answeredFor (lineOf r) room
 
 -- the output afterwards
-abbrev pub outputAfter : Record → List ℕ → List ℕ
-outputAfter r out = outputFor (lineOf r) out
+abbrev pub lineAfter : Record → List ℕ → List ℕ
+lineAfter r out = outputFor (lineOf r) out

@@ -24,12 +24,12 @@ abbrev pub outputOf : List ℕ → List ℕ
 outputOf s = choose (ltb 65536 (length s)) (ascii "too long\n") (listingOf s)
 
 -- 5: the output has fewer than 147,456 bytes, which hold all that can be printed
-unfoldable pub printRefusal : ℕ → ℕ
-printRefusal room = first ((ltb room 147456, 5) ∷ [])
+unfoldable pub listRefusal : ℕ → ℕ
+listRefusal room = first ((ltb room 147456, 5) ∷ [])
 
 -- what is answered for an output of the given room, and the output afterwards
-abbrev pub printedOf : List ℕ → ℕ → Written
-printedOf s room = answered (printRefusal room) (outputOf s)
+abbrev pub listedOf : List ℕ → ℕ → Written
+listedOf s room = answered (listRefusal room) (outputOf s)
 
-abbrev pub printedAfter : List ℕ → List ℕ → List ℕ
-printedAfter s out = outputWith (printRefusal (length out)) (outputOf s) out
+abbrev pub listedAfter : List ℕ → List ℕ → List ℕ
+listedAfter s out = outputWith (listRefusal (length out)) (outputOf s) out

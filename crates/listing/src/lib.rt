@@ -2,8 +2,8 @@
 ghost use mathlib.Core.Path.{_≡_};
 ghost use denote.Ref.{ptr};
 ghost use lib.ListN.{length, take};
-ghost use Rattle.listing.specs.Line.{listedOf, outputAfter};
-ghost use Rattle.listing.specs.Listing.{printedOf, printedAfter};
+ghost use Rattle.listing.specs.Line.{lineWritten, lineAfter};
+ghost use Rattle.listing.specs.Listing.{listedOf, listedAfter};
 
 mod all;
 mod write;
@@ -25,8 +25,8 @@ const TOO_SHORT: Written = Written {
 
 // Writes a record's line to the start of `out`. A refusal leaves every byte of `out` as it was.
 pub fn line(header: Header, payload: &[u8], out: &mut [u8]) -> Written
-    ensures { λ r. ⌜ r ≡ listedOf (record { header = header; payload = now (payload .entry) }) (length (now (out .entry))) ⌝ }
-    ensures { λ r. ⌜ now (out .exit) ≡ outputAfter (record { header = header; payload = now (payload .entry) }) (now (out .entry)) ⌝ }
+    ensures { λ r. ⌜ r ≡ lineWritten (record { header = header; payload = now (payload .entry) }) (length (now (out .entry))) ⌝ }
+    ensures { λ r. ⌜ now (out .exit) ≡ lineAfter (record { header = header; payload = now (payload .entry) }) (now (out .entry)) ⌝ }
 {
     // Two digits for each payload byte: without room for them, the line's length could exceed a usize.
     if out.len() / 2 < payload.len() {
@@ -34,7 +34,7 @@ pub fn line(header: Header, payload: &[u8], out: &mut [u8]) -> Written
     }
     let kind = stream::kind_of(header.version);
     let head = write::head_length(kind, header.command);
-    let end = head + write::payload_length(payload);
+    let end = head + write::payload_text_length(payload);
     if out.len() <= end {
         return TOO_SHORT;
     }
@@ -48,8 +48,8 @@ pub fn line(header: Header, payload: &[u8], out: &mut [u8]) -> Written
 // Writes what the lister prints for a recording to the start of `out`: the listing, or `too long`.
 // 5: `out` has fewer than ROOM bytes; then every byte of it stays as it was.
 pub fn list(input: &[u8], out: &mut [u8]) -> Written
-    ensures { λ r. ⌜ r ≡ printedOf (now (input .entry)) (length (now (out .entry))) ⌝ }
-    ensures { λ r. ⌜ now (out .exit) ≡ printedAfter (now (input .entry)) (now (out .entry)) ⌝ }
+    ensures { λ r. ⌜ r ≡ listedOf (now (input .entry)) (length (now (out .entry))) ⌝ }
+    ensures { λ r. ⌜ now (out .exit) ≡ listedAfter (now (input .entry)) (now (out .entry)) ⌝ }
 {
     if out.len() < ROOM {
         return TOO_SHORT;

@@ -20,7 +20,7 @@ fn letter(kind: Kind) -> u8
 
 // Kind letter, destination, source and version.
 fn fields(kind: Kind, header: Header) -> [u8; 14]
-    ensures { λ r. ⌜ r ≡ lines.fieldsHex kind header ⌝ }
+    ensures { λ r. ⌜ r ≡ lines.hexFields kind header ⌝ }
 {
     let to = text::hex_word(header.destination);
     let from = text::hex_word(header.source);
@@ -57,8 +57,8 @@ fn is_byte(kind: Kind, command: u16) -> bool
 
 // A space and the command.
 fn command(kind: Kind, command: u16, out: &mut [u8])
-    requires { ⌜ length (lines.spaced (lines.commandHex kind command)) ≤ length (now out) ⌝ }
-    ensures { λ r. ⌜ now (out .exit) ≡ over (lines.spaced (lines.commandHex kind command)) (now (out .entry)) ⌝ }
+    requires { ⌜ length (lines.spaced (lines.hexCommand kind command)) ≤ length (now out) ⌝ }
+    ensures { λ r. ⌜ now (out .exit) ≡ over (lines.spaced (lines.hexCommand kind command)) (now (out .entry)) ⌝ }
 {
     if is_byte(kind, command) {
         let digits = text::hex_byte(command as u8);
@@ -70,21 +70,21 @@ fn command(kind: Kind, command: u16, out: &mut [u8])
 }
 
 pub fn head_length(kind: Kind, command: u16) -> usize
-    ensures { λ r. ⌜ r ≡ 15 + length (lines.commandHex kind command) ⌝ }
+    ensures { λ r. ⌜ r ≡ 15 + length (lines.hexCommand kind command) ⌝ }
 {
     if is_byte(kind, command) { 17 } else { 19 }
 }
 
 pub fn head(kind: Kind, header: Header, out: &mut [u8])
-    requires { ⌜ length (lines.headHex kind header) ≤ length (now out) ⌝ }
-    ensures { λ r. ⌜ now (out .exit) ≡ over (lines.headHex kind header) (now (out .entry)) ⌝ }
+    requires { ⌜ length (lines.hexHead kind header) ≤ length (now out) ⌝ }
+    ensures { λ r. ⌜ now (out .exit) ≡ over (lines.hexHead kind header) (now (out .entry)) ⌝ }
 {
     bytes::copy(&fields(kind, header), out);
     command(kind, header.command, &mut out[14..]);
 }
 
-pub fn payload_length(payload: &[u8]) -> usize
-    ensures { λ r. ⌜ r ≡ length (lines.payloadHex (now (payload .entry))) ⌝ }
+pub fn payload_text_length(payload: &[u8]) -> usize
+    ensures { λ r. ⌜ r ≡ length (lines.hexPayload (now (payload .entry))) ⌝ }
 {
     if payload.len() == 0 {
         return 0;
@@ -94,7 +94,7 @@ pub fn payload_length(payload: &[u8]) -> usize
 
 fn hex_bytes(bytes: &[u8], out: &mut [u8])
     requires { ⌜ 2 * length (now bytes) ≤ length (now out) ⌝ }
-    ensures { λ r. ⌜ now (out .exit) ≡ over (lines.bytesHex (now (bytes .entry))) (now (out .entry)) ⌝ }
+    ensures { λ r. ⌜ now (out .exit) ≡ over (lines.hexBytes (now (bytes .entry))) (now (out .entry)) ⌝ }
 {
     let mut i = 0;
     while i < bytes.len() {
@@ -106,8 +106,8 @@ fn hex_bytes(bytes: &[u8], out: &mut [u8])
 
 // A space and the payload, or nothing where it is empty.
 pub fn payload(payload: &[u8], out: &mut [u8])
-    requires { ⌜ length (lines.payloadHex (now payload)) ≤ length (now out) ⌝ }
-    ensures { λ r. ⌜ now (out .exit) ≡ over (lines.payloadHex (now (payload .entry))) (now (out .entry)) ⌝ }
+    requires { ⌜ length (lines.hexPayload (now payload)) ≤ length (now out) ⌝ }
+    ensures { λ r. ⌜ now (out .exit) ≡ over (lines.hexPayload (now (payload .entry))) (now (out .entry)) ⌝ }
 {
     if payload.len() == 0 {
         return;

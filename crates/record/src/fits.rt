@@ -43,7 +43,7 @@ fn high_command(kind: Kind, command: u16) -> bool
 }
 
 // The frame count of a record, by its command and its payload's length.
-pub fn frame_count(kind: Kind, command: u16, count: usize) -> usize
+pub fn frames_of(kind: Kind, command: u16, count: usize) -> usize
     ensures { λ r. ⌜ r ≡ framesOf kind command count ⌝ }
 {
     match kind {
@@ -57,7 +57,7 @@ pub fn frame_count(kind: Kind, command: u16, count: usize) -> usize
 fn wrong_length(kind: Kind, command: u16, count: usize) -> bool
     ensures { λ r. ⌜ r ≡ wrongLength kind command count ⌝ }
 {
-    let frames = frame_count(kind, command, count);
+    let frames = frames_of(kind, command, count);
     if frames > 127 {
         return true;
     }

@@ -31,7 +31,7 @@ pub fn encode(header: Header, payload: &[u8], out: &mut [u8]) -> Written
     if number != 0 {
         return Written { number, length: 0 };
     }
-    let frames = fits::frame_count(kind, header.command, payload.len());
+    let frames = fits::frames_of(kind, header.command, payload.len());
     let size = fits::stream_length(kind, frames);
     if size <= out.len() {
         write::stream(kind, header, payload, out);

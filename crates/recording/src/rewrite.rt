@@ -3,12 +3,13 @@ ghost use mathlib.Core.Path.{_≡_};
 ghost use Prim.Native.Nat.{_≤_};
 ghost use lib.ListN.{length};
 ghost use Rattle.basics.specs.Bytes.{over};
-ghost use Rattle.recording.specs.Normalize.{normalized};
+ghost use Rattle.recording.specs.Normalize.{normalized, normalizingOf, outputAfter};
 use crate::search::Search;
 use crate::search::first_whole;
+use basics::Written;
 
 // How long the normalized recording is.
-pub fn measure(input: &[u8]) -> usize
+fn measure(input: &[u8]) -> usize
     ensures { λ r. ⌜ r ≡ length (normalized (now (input .entry))) ⌝ }
 {
     let mut at = 0;
@@ -26,7 +27,7 @@ pub fn measure(input: &[u8]) -> usize
 
 // Writes the records one behind the other, each to the rest of the output, and returns how many bytes they take.
 // A whole stream is just what writing its record gives (law `whole-again`), so its bytes are copied.
-pub fn all(input: &[u8], out: &mut [u8]) -> usize
+fn all(input: &[u8], out: &mut [u8]) -> usize
     requires { ⌜ length (normalized (now input)) ≤ length (now out) ⌝ }
     ensures { λ r. ⌜ r ≡ length (normalized (now (input .entry))) ⌝ }
     ensures { λ r. ⌜ now (out .exit) ≡ over (normalized (now (input .entry))) (now (out .entry)) ⌝ }
@@ -44,5 +45,25 @@ pub fn all(input: &[u8], out: &mut [u8]) -> usize
             }
             Search::Nothing => break to,
         }
+    }
+}
+
+// The records written to an output that has room for them.
+pub fn normalize(input: &[u8], out: &mut [u8]) -> Written
+    ensures { λ r. ⌜ r ≡ normalizingOf (now (input .entry)) (length (now (out .entry))) ⌝ }
+    ensures { λ r. ⌜ now (out .exit) ≡ outputAfter (now (input .entry)) (now (out .entry)) ⌝ }
+{
+    // No normalized recording is longer than the recording, so only a shorter output is measured against.
+    if out.len() < input.len() {
+        if out.len() < measure(input) {
+            return Written {
+                number: 5,
+                length: 0,
+            };
+        }
+    }
+    Written {
+        number: 0,
+        length: all(input, out),
     }
 }

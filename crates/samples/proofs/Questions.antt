@@ -48,8 +48,8 @@ pub data Question : Type 0 where
 abbrev pub untouched : ℕ → List ℕ
 untouched room = replicate room 0xEE
 
-abbrev blockTold : Septets → List ℕ
-blockTold b = b .number ∷ b .length ∷ b .septet ∷ b .bytes
+abbrev septetsTold : Septets → List ℕ
+septetsTold b = b .number ∷ b .length ∷ b .septet ∷ b .bytes
 
 abbrev headerTold : Header → List ℕ
 headerTold h = h .version ∷ h .destination ∷ h .source ∷ h .command ∷ []
@@ -80,8 +80,8 @@ partTold p = p .number ∷ p .start ∷ p .length ∷ []
 
 abbrev pub answer : Question → List ℕ
 answer (checksum block) = checksumOf block ∷ []
-answer (extract block n) = blockTold (extracted block n)
-answer (inject block n septet) = blockTold (injected block n septet)
+answer (extract block n) = septetsTold (extracted block n)
+answer (inject block n septet) = septetsTold (injected block n septet)
 answer (validate s) = validationTold (validationOf s)
 answer (read s) = headerTold (recordOf s .header) ++ recordOf s .payload
 answer (carry r) = unwritable r ∷ []

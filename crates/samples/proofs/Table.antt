@@ -29,9 +29,9 @@ use Rattle.samples.proofs.Samples.{bytes, recorded, p1, d1, t1, t2, two
 abbrev Row : Type 0
 Row = Question × List ℕ
 
--- a refused block; a refused writing; no next record, and any number with it
-abbrev noBlock : List ℕ
-noBlock = 7 ∷ replicate 9 0
+-- refused septets; a refused writing; no next record, and any number with it
+abbrev noSeptets : List ℕ
+noSeptets = 7 ∷ replicate 9 0
 
 abbrev refused : ℕ → ℕ → List ℕ
 refused number room = number ∷ 0 ∷ untouched room
@@ -58,22 +58,22 @@ starred =
     ∷ (encode (packet 0x0080 0x6610 0x0200 4) 16, refused 2 16)
     ∷ []
 
-abbrev blocks : List Row
-blocks =
+abbrev septets : List Row
+septets =
     (checksum [], 0x7F ∷ [])
     ∷ (checksum (0x80 ∷ []), 0x7F ∷ [])
     ∷ (checksum (0xFF ∷ 0xFF ∷ []), 0x01 ∷ [])
     ∷ (extract (replicate 7 0xFF) 7, 0 ∷ 7 ∷ 0x7F ∷ replicate 7 0x7F)
     ∷ (extract (bytes 7 0x38900DB6_C623FF) 6, 0 ∷ 6 ∷ 0x1A ∷ bytes 7 0x38100D36_462300)
     ∷ (extract (replicate 7 0xFF) 0, replicate 10 0)
-    ∷ (extract (replicate 7 0xFF) 8, noBlock)
+    ∷ (extract (replicate 7 0xFF) 8, noSeptets)
     ∷ (inject (replicate 7 0x7F) 7 0x7F, 0 ∷ 7 ∷ 0 ∷ replicate 7 0xFF)
     ∷ (inject (bytes 7 0x68037401_FFFFFF) 4 0x05, 0 ∷ 4 ∷ 0 ∷ bytes 7 0xE803F401_000000)
     ∷ (inject (replicate 7 0x7F) 0 0, replicate 10 0)
-    ∷ (inject (replicate 7 0) 8 0, noBlock)
-    ∷ (inject (bytes 7 0x68037480_000000) 4 0x05, noBlock)
-    ∷ (inject (replicate 7 0) 7 0x80, noBlock)
-    ∷ (inject (replicate 7 0) 4 0x10, noBlock)
+    ∷ (inject (replicate 7 0) 8 0, noSeptets)
+    ∷ (inject (bytes 7 0x68037480_000000) 4 0x05, noSeptets)
+    ∷ (inject (replicate 7 0) 7 0x80, noSeptets)
+    ∷ (inject (replicate 7 0) 4 0x10, noSeptets)
     ∷ []
 
 abbrev verdicts : List Row
@@ -87,6 +87,10 @@ verdicts =
     ∷ (validate (0xAA ∷ 0x7F ∷ 0x80 ∷ []), 2 ∷ 2 ∷ [])
     ∷ (validate (bytes 6 0xAA102031_7790), 2 ∷ 5 ∷ [])
     ∷ (validate (bytes 13 0xAA114410_66100002_01210704_80), 2 ∷ 12 ∷ [])
+    ∷ (validate (t1 0xF6), 2 ∷ 7 ∷ [])
+    ∷ (validate (bytes 15 0xAA114410_66100002_01210704_0F0080), 2 ∷ 14 ∷ [])
+    ∷ (validate (bytes 16 0xAA114410_66100002_01210704_0F0000E5), 2 ∷ 15 ∷ [])
+    ∷ (validate (bytes 16 0xAA200011_19200001_00000000_00008014), 2 ∷ 14 ∷ [])
     ∷ (validate (bytes 8 0xAA102031_77110176), 3 ∷ 5 ∷ [])
     ∷ (validate (bytes 10 0xAA114410_66100002_0122), 4 ∷ 9 ∷ [])
     ∷ (validate (bytes 16 0xAA200011_19200001_00000000_00000015), 4 ∷ 15 ∷ [])
@@ -210,7 +214,7 @@ verdictNumbers =
     ∷ []
 
 abbrev table : List Row
-table = starred ++ (blocks ++ (verdicts ++ (records ++ (recordings ++ (blockSections ++ verdictNumbers)))))
+table = starred ++ (septets ++ (verdicts ++ (records ++ (recordings ++ (blockSections ++ verdictNumbers)))))
 
 samples : map (λ (row : Row). answer (row .0)) table ≡ map (λ (row : Row). row .1) table
 unfolding choose signed checksumFrom septetOf lowBits withTopBits anyHigh kindOf headerLength frameWidth frameCount streamLength payloadLength frameRule headerRule ruleAt breach faultAt validationFrom recordOf unframed commandIn payloadIn framed framesOf kindBytes streamAs streamOf unwritable Encodings.refusal deliveriesFrom Nexts.refusal streams roomRefusal cut someShort elementSize notBlock flatten

@@ -10,7 +10,7 @@ pub fn first_mut(s: &mut [u8], n: usize) -> &mut [u8] {
     if n <= s.len() { &mut s[0..n] } else { s }
 }
 
-// What stands behind the first bytes, or all where there are no more.
+// What stands behind the first bytes; all of it where there are fewer.
 pub fn behind(s: &[u8], count: usize) -> &[u8] {
     if count <= s.len() { &s[count..] } else { s }
 }

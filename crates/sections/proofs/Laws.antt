@@ -13,14 +13,14 @@ use lib.Seq.{take-all}
 use denote.Ref.{RefT, now}
 use borrow.Author.Tests.{eq-eqb, ne-eqb, eqb-true, eqb-false}
 use Rattle.basics.specs.Choice.{choose}
-use Rattle.basics.proofs.Table.{when-none, when-refused}
+use Rattle.basics.proofs.Table.{when-none, when-refused, AskedLast, asked-last}
 use Rattle.record.specs.declared.Header.{Header}
 use Rattle.sections.specs.Section.{sectionsOf, overrun, sectionAt, startOf}
 use Rattle.sections.specs.Element.{elementSize, sizeIn, elementsIn, offsetIn, elementAt}
 use Rattle.sections.specs.Answer.{notBlock, blockLines, sectionLines, typeLines, elementLines, sectionCount, sectionFound, sectionShown, elementCount, elementFound, elementShown}
 use Rattle.sections.specs.Part.{Shows}
 use Rattle.sections.specs.declared.Shown.{Shown}
-use Rattle.sections.proofs.Tables.{Next, asked-last, asked-below, located-within, shown-at, shown-none}
+use Rattle.sections.proofs.Tables.{asked-below, located-within, shown-at, shown-none}
 use Rattle.sections.proofs.Sections.{Whole, overrun-exactly, start-next, sections-joined}
 use Rattle.sections.proofs.Finding.{Block, block-exactly, block-numbered, section-numbered, found-present, section-standing}
 use Rattle.sections.proofs.Elements.{type-numbered, typed, element-inside}
@@ -49,18 +49,18 @@ module _ (h : Header) (p : List ℕ) where
 
   module _ (k : ℕ) where
     -- a section is found exactly if its number is below the count; else 10
-    pub section-exists : Next (sectionCount h p .number) (sectionFound h p k .number) 10 (sectionCount h p .count ≤ k) (k < sectionCount h p .count)
+    pub section-exists : AskedLast (sectionCount h p .number) (sectionFound h p k .number) 10 (sectionCount h p .count ≤ k) (k < sectionCount h p .count)
     section-exists = asked-below 10 (omega arith) (blockLines h p) (block-numbered h p) (length (sectionsOf p)) k
 
     -- its elements are counted exactly if its type is in the table; else 11
-    pub type-exists : Next (sectionFound h p k .number) (elementCount h p k .number) 11 (elementSize (getD (sectionAt p k) 1 0) ≡ 0) (0 < elementSize (getD (sectionAt p k) 1 0))
+    pub type-exists : AskedLast (sectionFound h p k .number) (elementCount h p k .number) 11 (elementSize (getD (sectionAt p k) 1 0) ≡ 0) (0 < elementSize (getD (sectionAt p k) 1 0))
     type-exists =
         let size = elementSize (getD (sectionAt p k) 1 0) in
         asked-last 11 (omega arith) (sectionLines h p k) (section-numbered h p k) (eqb size 0)
         (λ none. ((eqb-true size 0, eq-eqb size 0), (λ e. pos-of-ne-zero (eqb-false size 0 e), λ e. ne-eqb size 0 (λ z. omega arith))))
 
     -- an element is found exactly if its number is below the count; else 10
-    pub element-exists : (i : ℕ) → Next (elementCount h p k .number) (elementFound h p k i .number) 10 (elementCount h p k .count ≤ i) (i < elementCount h p k .count)
+    pub element-exists : (i : ℕ) → AskedLast (elementCount h p k .number) (elementFound h p k i .number) 10 (elementCount h p k .count ≤ i) (i < elementCount h p k .count)
     element-exists i = asked-below 10 (omega arith) (typeLines h p k) (type-numbered h p k) (elementsIn (sectionAt p k)) i
 
   -- "any further number .. in a refused answer is zero"

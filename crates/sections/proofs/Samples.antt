@@ -9,7 +9,7 @@ use denote.Ref.{RefT}
 use Rattle.basics.specs.Choice.{choose}
 use Rattle.basics.specs.Words.{signed}
 use Rattle.sections.specs.Element.{elementSize, temperatureOf}
-use Rattle.sections.specs.Part.{PartOf}
+use Rattle.sections.specs.Part.{StandsAt}
 
 -- n numbers, from k on
 abbrev from : ℕ → ℕ → List ℕ
@@ -31,9 +31,9 @@ abbrev at : ℕ → ℕ → List ℕ → RefT (List ℕ)
 at block offset bytes = record { ptr = (block, offset); name = 0; now = bytes }
 
 -- of a payload at offset 100 of block 5, the bytes from 2 on stand at offset 102 of that block
-part : PartOf (at 5 100 (1 ∷ 2 ∷ 3 ∷ [])) 2 (3 ∷ []) (at 5 102 (3 ∷ []))
+part : StandsAt (at 5 100 (1 ∷ 2 ∷ 3 ∷ [])) 2 (3 ∷ []) (at 5 102 (3 ∷ []))
 part = record { holds = refl; stands = refl }
 
 -- the same bytes anywhere else are a copy, and no part
-copy : PartOf (at 5 100 (1 ∷ 2 ∷ 3 ∷ [])) 2 (3 ∷ []) (at 6 102 (3 ∷ [])) → ⊥
+copy : StandsAt (at 5 100 (1 ∷ 2 ∷ 3 ∷ [])) 2 (3 ∷ []) (at 6 102 (3 ∷ [])) → ⊥
 copy p = absurd (omega (arith, ap (λ (x : ℕ × ℕ). x .0) (p .stands)))

@@ -30,7 +30,7 @@ use denote.Triple.Clauses.{ensured, lasts}
 use Rattle.record.specs.declared.Header.{Header}
 use Rattle.record.proofs.Header as H₁
 use Rattle.record.proofs.Header.Laws as H₁′
-use Rattle.sections.specs.Part.{PartOf, Shows}
+use Rattle.sections.specs.Part.{StandsAt, Shows}
 use Rattle.sections.specs.declared.Part.{Part}
 use Rattle.sections.specs.declared.Shown.{Shown}
 use Rattle.sections.proofs.Part as P
@@ -45,7 +45,7 @@ answer found part = record { number = found .number; part = part }
 
 -- what `cut_out` says of its result
 abbrev pub CutOut : RefT (List ℕ) → Part → RefT (List ℕ) → Type 0
-CutOut s found part = PartOf s (found .start) (take (found .length) (drop (found .start) (now s))) part
+CutOut s found part = StandsAt s (found .start) (take (found .length) (drop (found .start) (now s))) part
 
 pub shows : (s : RefT (List ℕ)) (found is : Part) (bytes : List ℕ) (part : RefT (List ℕ)) → found ≡ is
     → bytes ≡ take (is .length) (drop (is .start) (now s)) → CutOut s found part → Shows s is bytes (answer found part)

@@ -4,7 +4,7 @@ ghost use Prim.Native.Nat.{_+_, _*_, _≤_};
 ghost use lib.ListN.{length, take, drop};
 ghost use Rattle.sections.specs.Answer.{notBlock, sectionCount, sectionFound, sectionShown, elementCount, elementFound, elementShown};
 ghost use Rattle.sections.specs.Element.{elementSize, temperatureOf};
-ghost use Rattle.sections.specs.Part.{PartOf, Shows};
+ghost use Rattle.sections.specs.Part.{StandsAt, Shows};
 
 mod chain;
 
@@ -26,6 +26,7 @@ pub struct Part {
 }
 
 // A part of the caller's payload, or a refusal's number and an empty part.
+#[repr(C)]
 pub struct Shown<'a> {
     pub number: u32,
     pub part: &'a [u8],
@@ -112,7 +113,7 @@ pub fn find_section(header: Header, payload: &[u8], k: usize) -> Part
 // What was found, cut out of the payload.
 fn cut_out<'a>(payload: &'a [u8], found: Part) -> &'a [u8]
     requires { ⌜ found .start + found .length ≤ length (now payload) ⌝ }
-    ensures { λ r. ⌜ PartOf (payload .entry) (found .start) (take (found .length) (drop (found .start) (now (payload .entry)))) r ⌝ }
+    ensures { λ r. ⌜ StandsAt (payload .entry) (found .start) (take (found .length) (drop (found .start) (now (payload .entry)))) r ⌝ }
 {
     let start = found.start;
     let end = start + found.length;

@@ -88,21 +88,21 @@ module _ (width : ℕ) (part : List ℕ) (clean : Clean (frameFault width part) 
 -- ── the frames of a stream, from one on
 
 -- the bytes from a up to e
-abbrev pub partOf : List ℕ → ℕ → ℕ → List ℕ
-partOf s a e = take (e - a) (drop a s)
+abbrev pub between : List ℕ → ℕ → ℕ → List ℕ
+between s a e = take (e - a) (drop a s)
 
-pub length-part : (s : List ℕ) (a e : ℕ) → e ≤ length s → length (partOf s a e) ≡ e - a
+pub length-part : (s : List ℕ) (a e : ℕ) → e ≤ length s → length (between s a e) ≡ e - a
 length-part s a e inside = length-take-le (e - a) (drop a s) (simp length-drop (omega arith))
 
 module _ (s : List ℕ) (a width end : ℕ) (frames : FramesFrom s a width end) where
-  same : (e i : ℕ) → i < width + 2 → a + i < e → faultAt s (a + i) ≡ frameFault width (partOf s a e) i
+  same : (e i : ℕ) → i < width + 2 → a + i < e → faultAt s (a + i) ≡ frameFault width (between s a e) i
   same e i inside there =
       frame-part width s a (e - a) i (omega (arith, frames .after)) (rw (mul-zero, add-zero) at (frames .rules 0 i inside)) inside (omega arith)
 
   -- the first of them has no fault exactly if the stream has none up to that frame's end
-  pub first-clean : (e : ℕ) → a + (width + 2) ≤ e → Clean (frameFault width (partOf s a e)) (width + 2) ↔ Clean (faultAt s) (a + (width + 2))
+  pub first-clean : (e : ℕ) → a + (width + 2) ≤ e → Clean (frameFault width (between s a e)) (width + 2) ↔ Clean (faultAt s) (a + (width + 2))
   first-clean e long = (
-    joined (faultAt s) (frameFault width (partOf s a e)) a (width + 2) (frames .clean) (λ i inside. same e i inside (omega arith)),
+    joined (faultAt s) (frameFault width (between s a e)) a (width + 2) (frames .clean) (λ i inside. same e i inside (omega arith)),
     λ clean i inside. sym (same e i inside (omega arith)) ∙ clean (a + i) (omega arith),
   )
 
@@ -135,12 +135,12 @@ module _ (s : List ℕ) (a width end : ℕ) (frames : FramesFrom s a width end) 
 
 -- the first of them isn't right: what it brings, or its n bytes up to the input's end, the stream brings
 pub frames-stop : (s : List ℕ) (a width end n : ℕ) {v k : ℕ} → RightUpTo s a width end → a < end → IsMin (width + 2) (length s - a) n
-    → Reached (frameFault width (partOf s a (a + n))) (width + 2) (length (partOf s a (a + n))) v k → Reached (faultAt s) (streamLength s) (length s) v (a + k)
+    → Reached (frameFault width (between s a (a + n))) (width + 2) (length (between s a (a + n))) v k → Reached (faultAt s) (streamLength s) (length s) v (a + k)
 frames-stop s a width end n {v} {k} right more min reached =
     let frames = right .frames in
     let inside : a + n ≤ length s = omega (arith, frames .there, min .right) in
     let size = length-part s a (a + n) inside in
-    moved (faultAt s) (frameFault width (partOf s a (a + n))) a (width + 2) (streamLength s) (length s) (length (partOf s a (a + n))) v k (frames .clean)
+    moved (faultAt s) (frameFault width (between s a (a + n))) a (width + 2) (streamLength s) (length s) (length (between s a (a + n))) v k (frames .clean)
     (λ i short there. same s a width end frames (a + n) i short (omega arith))
     (omega (arith, room s a width end frames more, frames .total)) (omega arith)
     (λ cut. dite (decLt n (length s - a)) (λ less. absurd (omega (arith, min .most (suc n) (omega arith) less))) (λ no. omega arith))

@@ -7,8 +7,8 @@ use Rattle.text.specs.Ascii.{ascii}
 abbrev pub digit : ℕ → ℕ
 digit n = getD (ascii "0123456789ABCDEF") n 0
 
-abbrev pub byteHex : ℕ → List ℕ
-byteHex byte = digit (byte / 16) ∷ digit (byte % 16) ∷ []
+abbrev pub hexByte : ℕ → List ℕ
+hexByte byte = digit (byte / 16) ∷ digit (byte % 16) ∷ []
 
-abbrev pub wordHex : ℕ → List ℕ
-wordHex word = byteHex (word / 256) ++ byteHex (word % 256)
+abbrev pub hexWord : ℕ → List ℕ
+hexWord word = hexByte (word / 256) ++ hexByte (word % 256)

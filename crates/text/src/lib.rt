@@ -12,14 +12,14 @@ fn digit(n: u8) -> u8
 
 // A byte as two digits.
 pub fn hex_byte(byte: u8) -> [u8; 2]
-    ensures { λ r. ⌜ r ≡ hex.byteHex byte ⌝ }
+    ensures { λ r. ⌜ r ≡ hex.hexByte byte ⌝ }
 {
     [digit(byte / 16), digit(byte % 16)]
 }
 
 // A word as four digits.
 pub fn hex_word(word: u16) -> [u8; 4]
-    ensures { λ r. ⌜ r ≡ hex.wordHex word ⌝ }
+    ensures { λ r. ⌜ r ≡ hex.hexWord word ⌝ }
 {
     let high = (word / 256) as u8;
     let low = (word % 256) as u8;

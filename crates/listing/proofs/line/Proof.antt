@@ -9,8 +9,8 @@ use Rattle.basics.proofs.Over.{lent}
 use Rattle.basics.proofs.Output.{answered-short, answered-fits, output-kept, output-written}
 use Rattle.text.specs.Ascii.{ascii}
 use Rattle.record.specs.Record.{Record}
-use Rattle.listing.specs.Line.{payloadHex, headHex, lineOf, listedOf, outputAfter}
-use Rattle.listing.proofs.Lines.{length-head, length-command, length-payloadHex, line-as, length-line, line-longer}
+use Rattle.listing.specs.Line.{hexPayload, hexHead, lineOf, lineWritten, lineAfter}
+use Rattle.listing.proofs.Lines.{length-head, length-command, length-hexPayload, line-as, length-line, line-longer}
 use borrow.Author.Needs.{needs}
 use Rattle.listing.proofs.line.Statement.{statement}
 use Rattle.listing.proofs.line.Tie as tie
@@ -21,22 +21,22 @@ given s = record { header = s .args .header; payload = s .args .payload .now }
 
 -- both clauses, for an output that is too short
 refuses : (s : tie.Start) → length (s .args .out .now) < length (lineOf (given s))
-    → (record { number = 5; length = 0 } ≡ listedOf (given s) (length (s .args .out .now))) × (s .args .out .now ≡ outputAfter (given s) (s .args .out .now))
+    → (record { number = 5; length = 0 } ≡ lineWritten (given s) (length (s .args .out .now))) × (s .args .out .now ≡ lineAfter (given s) (s .args .out .now))
 refuses s short =
     let line = lineOf (given s) in
     (sym (answered-short line (length (s .args .out .now)) short), sym (output-kept line (s .args .out .now) short))
 
 -- the line ends behind what was measured
-abbrev start : tie.After-payload-length → tie.Start
+abbrev start : tie.After-payload-text-length → tie.Start
 start c = c .before .before .before .before .before .before
 
-head-size : (c : tie.After-payload-length) → length (headHex (c .before .before .kind-of .result) (start c .args .header)) ≡ c .before .head-length .result
+head-size : (c : tie.After-payload-text-length) → length (hexHead (c .before .before .kind-of .result) (start c .args .header)) ≡ c .before .head-length .result
 head-size c = length-head (c .before .before .kind-of .result) (start c .args .header) ∙ sym (c .before .head-length .ensures)
 
-size : (c : tie.After-payload-length) → length (lineOf (given (start c))) ≡ c .before .head-length .result + c .payload-length .result + 1
+size : (c : tie.After-payload-text-length) → length (lineOf (given (start c))) ≡ c .before .head-length .result + c .payload-text-length .result + 1
 size c =
     let all = length-line (c .before .before .kind-of .result) (given (start c)) (c .before .before .kind-of .ensures) in
-    omega (arith, all, head-size c, c .payload-length .ensures)
+    omega (arith, all, head-size c, c .payload-text-length .ensures)
 
 returns : tie.Need-returns
 returns c = refuses (c .before .before .before) (omega (arith, line-longer (given (c .before .before .before))))
@@ -47,8 +47,8 @@ kind-of-requires c κs = search needs
 head-length-requires : tie.Need-head-length-requires
 head-length-requires c κs = search needs
 
-payload-length-requires : tie.Need-payload-length-requires
-payload-length-requires c κs = search needs
+payload-text-length-requires : tie.Need-payload-text-length-requires
+payload-text-length-requires c κs = search needs
 
 add-end : tie.Need-add-end
 add-end c =
@@ -56,7 +56,7 @@ add-end c =
     record {
       fits =
           omega
-          (arith, c .before .head-length .ensures, c .payload-length .ensures, length-command (c .before .before .kind-of .result) (r .header .command), length-payloadHex (r .payload));
+          (arith, c .before .head-length .ensures, c .payload-text-length .ensures, length-command (c .before .before .kind-of .result) (r .header .command), length-hexPayload (r .payload));
     }
 
 returns-2 : tie.Need-returns-2
@@ -108,13 +108,13 @@ returns-3 c =
     let r = given (start measured) in
     let out = start measured .args .out .now in
     let K = measured .before .before .kind-of .result in
-    let digits = headHex K (r .header) in
-    let end : length (digits ++ payloadHex (r .payload)) ≡ measured .before .head-length .result + measured .payload-length .result =
-    omega (arith, length-append digits (payloadHex (r .payload)), head-size measured, measured .payload-length .ensures) in
+    let digits = hexHead K (r .header) in
+    let end : length (digits ++ hexPayload (r .payload)) ≡ measured .before .head-length .result + measured .payload-text-length .result =
+    omega (arith, length-append digits (hexPayload (r .payload)), head-size measured, measured .payload-text-length .ensures) in
     let fits : length (lineOf r) ≤ length out = omega (arith, size measured, test .if2 .left) in (
       sym (answered-fits (lineOf r) (length out) fits ∙ ap (λ (n : ℕ). record { number = 0; length = n }) (size measured)),
-      lent (digits ++ payloadHex (r .payload)) (ascii "\n") out _ _ _ end
-          (lent digits (payloadHex (r .payload)) out _ _ _ (head-size measured) (head .head .ensures) (payload .payload .ensures)) (newline .copy .ensures .1)
+      lent (digits ++ hexPayload (r .payload)) (ascii "\n") out _ _ _ end
+          (lent digits (hexPayload (r .payload)) out _ _ _ (head-size measured) (head .head .ensures) (payload .payload .ensures)) (newline .copy .ensures .1)
           ∙ ap (λ (l : List ℕ). over l out) (sym (line-as K r (measured .before .before .kind-of .ensures)))
           ∙ sym (output-written (lineOf r) out fits),
     )
@@ -126,7 +126,7 @@ line-spec =
     returns
     kind-of-requires
     head-length-requires
-    payload-length-requires
+    payload-text-length-requires
     add-end
     returns-2
     head-requires

@@ -5,7 +5,7 @@ use mathlib.Core.Path.{refl, ap}
 use borrow.Author.Tests.{lt-ltb, le-ltb}
 use Rattle.basics.specs.Choice.{choose}
 use Rattle.basics.specs.declared.Written.{Written}
-use Rattle.listing.specs.Listing.{printRefusal}
+use Rattle.listing.specs.Listing.{listRefusal}
 use Rattle.listing.proofs.Room.{listing-room}
 use borrow.Author.Needs.{needs}
 use Rattle.listing.proofs.list.Statement.{statement}
@@ -15,7 +15,7 @@ abbrev answer : ℕ → Written
 answer n = record { number = 0; length = n }
 
 returns : tie.Need-returns
-unfolding choose printRefusal
+unfolding choose listRefusal
 returns c = rw (lt-ltb _ _ (c .if1 .taken)) (refl, refl)
 
 slice-aggregate-copy : tie.Need-slice-aggregate-copy
@@ -28,7 +28,7 @@ same-length : tie.Need-same-length
 same-length c = search needs
 
 returns-2 : tie.Need-returns-2
-unfolding choose printRefusal
+unfolding choose listRefusal
 returns-2 c =
     let copy = c .before .before in
     let test = copy .before .before .before in
@@ -43,7 +43,7 @@ same-length-2 : tie.Need-same-length-2
 same-length-2 c = search needs
 
 returns-3 : tie.Need-returns-3
-unfolding choose printRefusal
+unfolding choose listRefusal
 returns-3 c =
     let lines = c .before .before in
     let test = lines .before .before in

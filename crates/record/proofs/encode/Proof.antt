@@ -39,7 +39,7 @@ kindAt c = c .before .before .before .before
 said : (c : tie.After-stream-length) → c .stream-length .result ≡ lengthWritten (kind (kindAt c)) (given (kindAt c))
 said c =
     let K = kind (kindAt c) in
-    c .stream-length .ensures ∙ ap (λ (n : ℕ). headerLength K + (frameWidth K + 2) * n) (c .before .frame-count .ensures)
+    c .stream-length .ensures ∙ ap (λ (n : ℕ). headerLength K + (frameWidth K + 2) * n) (c .before .frames-of .ensures)
 
 size : (c : tie.After-stream-length) → length (streamAs (kind (kindAt c)) (given (kindAt c))) ≡ c .stream-length .result
 size c =
@@ -57,13 +57,13 @@ returns c =
     let k = c .before .before in
     unwritten (kind k) (given k) (out k) (k .kind-of .ensures) _ (c .before .unwritable .ensures) (c .if1 .taken)
 
-frame-count-requires : tie.Need-frame-count-requires
-frame-count-requires c κs = search needs
+frames-of-requires : tie.Need-frames-of-requires
+frames-of-requires c κs = search needs
 
 stream-length-requires : tie.Need-stream-length-requires
 stream-length-requires c κs =
     let k = c .before .before .before in
-    rw (c .frame-count .ensures) (few-frames (kind k) (given k .header .command) (length (given k .payload)) (lines (c .before) .payload))
+    rw (c .frames-of .ensures) (few-frames (kind k) (given k .header .command) (length (given k .payload)) (lines (c .before) .payload))
 
 stream-requires : tie.Need-stream-requires
 stream-requires c κs =
@@ -94,7 +94,7 @@ encode-spec =
     kind-of-requires
     unwritable-requires
     returns
-    frame-count-requires
+    frames-of-requires
     stream-length-requires
     stream-requires
     same-length

@@ -2,7 +2,7 @@
 use native.Mathlib.Omega.{arith}
 use mathlib.Core.Path.{refl}
 use Rattle.basics.proofs.Over.{lent, copied}
-use Rattle.listing.specs.Line.{commandHex, spaced, fieldsHex, headHex}
+use Rattle.listing.specs.Line.{hexCommand, spaced, hexFields, hexHead}
 use borrow.Author.Needs.{needs}
 use Rattle.listing.proofs.write.head.Statement.{statement}
 use Rattle.listing.proofs.write.head.Tie as tie
@@ -14,35 +14,35 @@ slice-aggregate-copy : tie.Need-slice-aggregate-copy
 slice-aggregate-copy c = search needs
 
 copy-requires : tie.Need-copy-requires
-unfolding headHex
+unfolding hexHead
 copy-requires c κs = omega (arith)
 
 sub-command : tie.Need-sub-command
-unfolding headHex
+unfolding hexHead
 sub-command c = omega (arith)
 
 part-command-start : tie.Need-part-command-start
-unfolding headHex
+unfolding hexHead
 part-command-start c = omega (arith)
 
 part-command-end : tie.Need-part-command-end
 part-command-end c = search needs
 
 command-requires : tie.Need-command-requires
-unfolding headHex
+unfolding hexHead
 command-requires c κs = omega (arith)
 
 same-length : tie.Need-same-length
 same-length c = search needs
 
 returns : tie.Need-returns
-unfolding headHex
+unfolding hexHead
 returns c =
     let command = c .before .before in
     let copy = command .before .before .before .before in
     let fields = copy .before .before .before in
     let args = fields .before .before .args in
-    lent (fieldsHex (args .kind) (args .header)) (spaced (commandHex (args .kind) (args .header .command))) (args .out .now) _ _ 14 refl
+    lent (hexFields (args .kind) (args .header)) (spaced (hexCommand (args .kind) (args .header .command))) (args .out .now) _ _ 14 refl
     (copied _ _ _ _ (fields .fields .ensures) (copy .copy .ensures .1)) (command .command .ensures)
 
 pub head-spec : {M : Type 1} → statement M

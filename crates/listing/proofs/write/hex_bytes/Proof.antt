@@ -9,20 +9,20 @@ use lib.ListN.{length, take, getD}
 use lib.Seq.{take-all, length-take-le}
 use Rattle.basics.specs.Bytes.{over}
 use Rattle.basics.proofs.Over.{lent, copied}
-use Rattle.text.specs.Hex.{byteHex}
-use Rattle.listing.specs.Line.{bytesHex}
+use Rattle.text.specs.Hex.{hexByte}
+use Rattle.listing.specs.Line.{hexBytes}
 use Rattle.listing.proofs.Lines.{length-bytesHex, bytesHex-take}
 use Rattle.listing.proofs.write.hex_bytes.Statement.{statement}
 use Rattle.listing.proofs.write.hex_bytes.Tie as tie
 
 abbrev Inv-loop : tie.InvT-loop
-Inv-loop bytes out₀ i₀ out i = (i ≤ length bytes) × (out ≡ over (bytesHex (take i bytes)) out₀) × (length out ≡ length out₀)
+Inv-loop bytes out₀ i₀ out i = (i ≤ length bytes) × (out ≡ over (hexBytes (take i bytes)) out₀) × (length out ≡ length out₀)
 
 abbrev μ-loop : tie.MeasureT-loop
 μ-loop bytes out₀ i₀ out i = length bytes - i
 
 loop-holds : tie.Need-loop-holds Inv-loop μ-loop
-unfolding bytesHex
+unfolding hexBytes
 loop-holds c = (omega arith, refl, refl)
 
 mul-at : tie.Need-mul-at Inv-loop μ-loop
@@ -64,11 +64,11 @@ loop-again c =
     let loop = at-loop .loop in
     let bytes = args .bytes .now in
     let inside : loop .i < length bytes = omega arith in
-    let done = bytesHex (take (loop .i) bytes) in
+    let done = hexBytes (take (loop .i) bytes) in
     let passed : length done ≡ 2 * loop .i = length-bytesHex (take (loop .i) bytes) ∙ rw (length-take-le (loop .i) bytes (omega arith)) in (
       omega arith,
       rw (add-one, bytesHex-take bytes (loop .i) inside)
-          (lent done (byteHex (getD bytes (loop .i) 0)) (args .out .now) (loop .out) (copy .copy .last .1 .0) (2 * loop .i) passed
+          (lent done (hexByte (getD bytes (loop .i) 0)) (args .out .now) (loop .out) (copy .copy .last .1 .0) (2 * loop .i) passed
           (loop .inv .1) (copied _ _ _ _ (call .hex-byte .ensures) (copy .copy .ensures .1))),
       omega arith,
     )
@@ -81,7 +81,7 @@ returns c =
     let loop = c .before .loop in
     let args = c .before .before .before .before .args in
     let all : take (loop .i) (args .bytes .now) ≡ args .bytes .now = take-all (loop .i) (args .bytes .now) (omega arith) in
-    loop .inv .1 ∙ ap (λ (l : List ℕ). over (bytesHex l) (args .out .now)) all
+    loop .inv .1 ∙ ap (λ (l : List ℕ). over (hexBytes l) (args .out .now)) all
 
 pub hex-bytes-spec : {M : Type 1} → statement M
 hex-bytes-spec =

@@ -6,7 +6,7 @@ use mathlib.Core.List.{List, []}
 use lib.ListN.{length}
 use Rattle.basics.specs.Bytes.{over}
 use Rattle.basics.proofs.Over.{lent}
-use Rattle.listing.specs.Line.{bytesHex, spaced, payloadHex}
+use Rattle.listing.specs.Line.{hexBytes, spaced, hexPayload}
 use Rattle.listing.proofs.Lines.{length-bytesHex, payload-none, payload-some}
 use Rattle.text.specs.Ascii.{ascii}
 use borrow.Author.Needs.{needs}
@@ -14,10 +14,10 @@ use Rattle.listing.proofs.write.payload.Statement.{statement}
 use Rattle.listing.proofs.write.payload.Tie as tie
 
 -- what the test said
-none : (c : tie.Then1) → payloadHex (c .before .before .before .args .payload .now) ≡ []
+none : (c : tie.Then1) → hexPayload (c .before .before .before .args .payload .now) ≡ []
 none c = payload-none (c .before .before .before .args .payload .now) (omega arith)
 
-some : (c : tie.Else1) → payloadHex (c .before .before .before .args .payload .now) ≡ spaced (bytesHex (c .before .before .before .args .payload .now))
+some : (c : tie.Else1) → hexPayload (c .before .before .before .args .payload .now) ≡ spaced (hexBytes (c .before .before .before .args .payload .now))
 some c = payload-some (c .before .before .before .args .payload .now) (omega arith)
 
 room : (c : tie.Else1) → 2 * length (c .before .before .before .args .payload .now) + 1 ≤ length (c .before .before .before .args .out .now)
@@ -56,7 +56,7 @@ returns-2 c =
     let test = first .before .before .before in
     let args = test .before .before .before .args in
     let out = args .out .now in
-    lent (ascii " ") (bytesHex (args .payload .now)) out _ _ 1 refl (first .copy .ensures .1) (second .hex-bytes .ensures)
+    lent (ascii " ") (hexBytes (args .payload .now)) out _ _ 1 refl (first .copy .ensures .1) (second .hex-bytes .ensures)
     ∙ ap (λ (l : List ℕ). over l out) (sym (some test))
 
 pub payload-spec : {M : Type 1} → statement M

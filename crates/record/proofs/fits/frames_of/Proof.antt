@@ -1,8 +1,8 @@
--- `fits::frame_count` meets its contract. Assumes nothing.
+-- `fits::frames_of` meets its contract. Assumes nothing.
 use Rattle.record.specs.Record.{framesOf}
 use borrow.Author.Needs.{needs}
-use Rattle.record.proofs.fits.frame_count.Statement.{statement}
-use Rattle.record.proofs.fits.frame_count.Tie as tie
+use Rattle.record.proofs.fits.frames_of.Statement.{statement}
+use Rattle.record.proofs.fits.frames_of.Tie as tie
 
 enum-told : tie.Need-enum-told
 enum-told c = search needs
@@ -35,7 +35,7 @@ returns-4 : tie.Need-returns-4
 unfolding framesOf
 returns-4 c = rw (c .enum-told4 .given .1)
 
-pub frame-count-spec : {M : Type 1} → statement M
-frame-count-spec =
+pub frames-of-spec : {M : Type 1} → statement M
+frames-of-spec =
     tie.close
     (tie.spec enum-told enum-told-2 enum-told-3 telegram-frames-requires enum-told-4 returns returns-2 returns-3 returns-4)

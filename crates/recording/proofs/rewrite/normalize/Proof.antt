@@ -1,4 +1,4 @@
--- `recording::normalize` meets its contract: an output as long as the input has room, and a shorter one is measured against. Assumes nothing.
+-- `recording::rewrite::normalize` meets its contract: an output as long as the input has room, and a shorter one is measured against. Assumes nothing.
 use native.Mathlib.Omega.{arith}
 use Prim.Native.Nat.{ℕ, _<_, _≤_}
 use mathlib.Core.Path.{sym, ap, _∙_}
@@ -8,8 +8,8 @@ use Rattle.recording.specs.Normalize.{normalized}
 use Rattle.recording.proofs.Normalizing.{normalized-shorter}
 use Rattle.basics.proofs.Output.{answered-short, answered-fits, output-kept, output-written}
 use borrow.Author.Needs.{needs}
-use Rattle.recording.proofs.normalize.Statement.{statement}
-use Rattle.recording.proofs.normalize.Tie as tie
+use Rattle.recording.proofs.rewrite.normalize.Statement.{statement}
+use Rattle.recording.proofs.rewrite.normalize.Tie as tie
 
 measure-requires : tie.Need-measure-requires
 measure-requires c κs = search needs
