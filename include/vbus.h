@@ -80,7 +80,7 @@ typedef struct {
 } vbus_septets;
 
 /* The checksum of n bytes: 0x7F less each byte, the low seven bits kept. Of no bytes it is 0x7F. Never refuses. */
-uint8_t vbus_checksum(const uint8_t *block, size_t n);
+uint8_t vbus_checksum(const uint8_t *bytes, size_t n);
 
 /* Takes the top bits out of the first `length` bytes: bit i of `septet` is the top bit of byte i, which is clear in
  * the answer's bytes. The answer's bytes from `length` on are 0. `length` is the length handed in.

@@ -21,14 +21,14 @@ use Rattle.sections.proofs.Tables.{counted-none, located-refused, locat
 use Rattle.sections.proofs.Sections.{sections-at-most, from, from-start, from-size, Standing, standing}
 
 -- what a block packet is, and which payloads it can have
-pub record Block (h : Header) (n : ℕ) : Type 0 where
+pub record BlockPacket (h : Header) (n : ℕ) : Type 0 where
   pub version : h .version ≡ 0x10
   pub destination : h .destination ≡ 0x0015
   pub command : h .command ≡ 0x0100
   pub frames : n % 4 ≡ 0
-  pub room : n ≤ 508
+  pub most : n ≤ 508
 
-pub block-exactly : (h : Header) (n : ℕ) → (notBlock h n ≡ false) ↔ Block h n
+pub block-exactly : (h : Header) (n : ℕ) → (notBlock h n ≡ false) ↔ BlockPacket h n
 unfolding notBlock
 block-exactly h n = (
   λ e.
@@ -41,12 +41,12 @@ block-exactly h n = (
         destination = eqb-true _ _ (not-false _ (d .0));
         command = eqb-true _ _ (not-false _ (c .0));
         frames = eqb-true _ _ (not-false _ (f .0));
-        room = ltb-false _ _ (f .1);
+        most = ltb-false _ _ (f .1);
       },
-  λ b. rw (eq-eqb _ _ (b .version), eq-eqb _ _ (b .destination), eq-eqb _ _ (b .command), eq-eqb _ _ (b .frames), le-ltb _ _ (b .room)),
+  λ b. rw (eq-eqb _ _ (b .version), eq-eqb _ _ (b .destination), eq-eqb _ _ (b .command), eq-eqb _ _ (b .frames), le-ltb _ _ (b .most)),
 )
 
-pub no-block : (h : Header) (n : ℕ) → (Block h n → ⊥) → true ≡ notBlock h n
+pub no-block : (h : Header) (n : ℕ) → (BlockPacket h n → ⊥) → true ≡ notBlock h n
 no-block h n never = go (notBlock h n) refl
   where
     go : (t : Bool) → notBlock h n ≡ t → true ≡ t
@@ -87,7 +87,7 @@ module _ (h : Header) (p : List ℕ) where
         counted = none;
         here = here;
         whole = whole;
-        near = omega (arith, sections-at-most p whole, block-exactly h (length p) .0 (lines .0) .room);
+        near = omega (arith, sections-at-most p whole, block-exactly h (length p) .0 (lines .0) .most);
       }
 
   pub found-present : (k : ℕ) → sectionFound h p k .number ≡ 0 → Present k

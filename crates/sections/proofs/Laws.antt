@@ -22,7 +22,7 @@ use Rattle.sections.specs.Part.{Shows}
 use Rattle.sections.specs.declared.Shown.{Shown}
 use Rattle.sections.proofs.Tables.{asked-below, located-within, shown-at, shown-none}
 use Rattle.sections.proofs.Sections.{Whole, overrun-exactly, start-next, sections-joined}
-use Rattle.sections.proofs.Finding.{Block, block-exactly, block-numbered, section-numbered, found-present, section-standing}
+use Rattle.sections.proofs.Finding.{BlockPacket, block-exactly, block-numbered, section-numbered, found-present, section-standing}
 use Rattle.sections.proofs.Elements.{type-numbered, typed, element-inside}
 
 -- 0, 8 or 9, by what holds where 8 isn't given, and what holds where 9 isn't
@@ -44,7 +44,7 @@ by-two false false f g =
 
 module _ (h : Header) (p : List ℕ) where
   -- sections are counted exactly if it is a block packet and each of them is whole; 8 exactly if it is none, else 9
-  pub sections-exist : Refusal (sectionCount h p .number) (Block h (length p)) (Whole p)
+  pub sections-exist : Refusal (sectionCount h p .number) (BlockPacket h (length p)) (Whole p)
   sections-exist = by-two (notBlock h (length p)) (overrun p) (block-exactly h (length p)) (overrun-exactly p)
 
   module _ (k : ℕ) where

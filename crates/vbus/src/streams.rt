@@ -6,12 +6,12 @@ ghost use Rattle.stream.specs.Validation.{validationOf};
 use septet::Septets;
 use stream::Validation;
 
-// The checksum of a block.
+// The checksum of some bytes.
 #[no_mangle]
-pub extern "C" fn vbus_checksum(block: &[u8]) -> u8
-    ensures { λ r. ⌜ r ≡ checksumOf (now (block .entry)) ⌝ }
+pub extern "C" fn vbus_checksum(bytes: &[u8]) -> u8
+    ensures { λ r. ⌜ r ≡ checksumOf (now (bytes .entry)) ⌝ }
 {
-    checksum::checksum(block)
+    checksum::checksum(bytes)
 }
 
 // The first `used` bytes without their top bits, and the septet that holds these.

@@ -18,7 +18,7 @@ returns c =
 header-step-requires : tie.Need-header-step-requires
 header-step-requires c κs =
     let a = c .before .before .before .args in
-    omega (arith, block-exactly (a .header) (length (a .payload .now)) .0 (sym (c .before .not-block .ensures) ∙ c .if1 .left) .room)
+    omega (arith, block-exactly (a .header) (length (a .payload .now)) .0 (sym (c .before .not-block .ensures) ∙ c .if1 .left) .most)
 
 returns-2 : tie.Need-returns-2
 returns-2 c =
