@@ -17,7 +17,7 @@ pub const MOST: usize = 65536;
 // Room for every output: a line has at most 9/4 as many bytes as its record's stream (law `line-room`).
 pub const ROOM: usize = 147456;
 
-// 5: the output is shorter than the line.
+// 5: the output is too short.
 const TOO_SHORT: Written = Written {
     number: 5,
     length: 0,
