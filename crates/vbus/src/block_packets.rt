@@ -1,6 +1,7 @@
 // The sections and elements of a block packet. C gets places in its payload, where the crate `sections` also shows the bytes.
 ghost use mathlib.Core.Path.{_≡_};
 ghost use Rattle.sections.specs.Answer.{sectionCount, sectionFound, elementCount, elementFound};
+ghost use Rattle.sections.specs.Element.{temperatureOf};
 use record::Header;
 use sections::Count;
 use sections::Part;
@@ -40,4 +41,12 @@ pub extern "C" fn vbus_element(
     ensures { λ r. ⌜ r ≡ elementFound header (now (payload .entry)) section element ⌝ }
 {
     sections::find_element(header, payload, section, element)
+}
+
+// A temperature, an element's two bytes, as a signed number.
+#[no_mangle]
+pub extern "C" fn vbus_temperature(bytes: &[u8; 2]) -> i16
+    ensures { λ r. ⌜ r ≡ temperatureOf (now (bytes .entry)) ⌝ }
+{
+    sections::temperature(*bytes)
 }
