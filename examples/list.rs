@@ -1,61 +1,102 @@
-//! Lists the records of a recording, one line each: kind, destination, source, version, command
-//! and payload in hex.
+//! Lists the records of a recording of any size, one line each: kind, destination, source, version,
+//! command and payload in hex.
 //!
-//! In `rust`: `cargo run --example list -- ../recordings/plant.vbus`
+//! In `rust`: `cargo run --example list -- ../recordings/plant.vbus`, or without a name and the
+//! recording as standard input.
+//!
+//! Exit status: 0 listed; 1 the recording couldn't be read, or the listing couldn't be written;
+//! 2 wrong use.
 
-use std::io::{self, BufWriter, Write};
+use std::ffi::OsString;
+use std::io::{self, BufWriter, ErrorKind, IsTerminal, Read, Write};
+use std::path::{Path, PathBuf};
 use std::process::ExitCode;
 use std::{env, fs};
 
-use vbus::{Kind, Record};
+const USAGE: &str = "\
+usage: list FILE, or list < FILE
+Lists the VBus records of a recording, one line each: kind letter, destination, source, version,
+command and payload in hex.
+";
+
+/// What there is to do.
+enum Task {
+    Help,
+    File(PathBuf),
+    StandardInput,
+}
 
 fn main() -> ExitCode {
-    let Some(path) = env::args_os().nth(1) else {
-        eprintln!("usage: list RECORDING");
+    let Some(task) = task(env::args_os().skip(1).collect()) else {
+        say(USAGE);
         return ExitCode::from(2);
     };
-    let recording = match fs::read(&path) {
-        Ok(bytes) => bytes,
-        Err(error) => {
-            eprintln!("{}: {error}", path.to_string_lossy());
-            return ExitCode::from(2);
-        }
-    };
-    match list(&recording) {
+    match run(task) {
         Ok(()) => ExitCode::SUCCESS,
-        Err(error) => {
-            eprintln!("writing the list: {error}");
+        Err(message) => {
+            say(&message);
             ExitCode::FAILURE
         }
     }
 }
 
-fn list(recording: &[u8]) -> io::Result<()> {
-    let mut out = BufWriter::new(io::stdout().lock());
-    for entry in vbus::records(recording) {
-        write_record(&mut out, &entry.record)?;
+/// What the arguments ask for, or `None` if that can't be done.
+fn task(mut arguments: Vec<OsString>) -> Option<Task> {
+    match (arguments.pop(), arguments.is_empty()) {
+        (Some(help), true) if help == "--help" || help == "-h" => Some(Task::Help),
+        (Some(file), true) => Some(Task::File(file.into())),
+        (None, _) if !io::stdin().is_terminal() => Some(Task::StandardInput),
+        _ => None,
     }
-    out.flush()
 }
 
-fn write_record(out: &mut impl Write, record: &Record) -> io::Result<()> {
-    let header = record.header;
-    // A telegram's command has one byte, the others' two.
-    let (letter, command) = match header.kind() {
-        Some(Kind::Telegram) => ('T', format!("{:02X}", header.command)),
-        Some(Kind::Datagram) => ('D', format!("{:04X}", header.command)),
-        _ => ('P', format!("{:04X}", header.command)),
-    };
-    write!(
-        out,
-        "{letter} {:04X} {:04X} {:02X} {command}",
-        header.destination, header.source, header.version
-    )?;
-    if !record.payload.is_empty() {
-        write!(out, " ")?;
+/// Does the task, or gives the message of what went wrong.
+fn run(task: Task) -> Result<(), String> {
+    match task {
+        Task::Help => write_out(|out| out.write_all(USAGE.as_bytes())),
+        Task::File(file) => list(&read_file(&file)?),
+        Task::StandardInput => list(&read_standard_input()?),
     }
-    for byte in &record.payload {
-        write!(out, "{byte:02X}")?;
+}
+
+fn read_file(file: &Path) -> Result<Vec<u8>, String> {
+    fs::read(file).map_err(|error| format!("list: {}: {error}\n", file.display()))
+}
+
+fn read_standard_input() -> Result<Vec<u8>, String> {
+    let mut bytes = Vec::new();
+    match io::stdin().lock().read_to_end(&mut bytes) {
+        Ok(_) => Ok(bytes),
+        Err(error) => Err(format!("list: standard input: {error}\n")),
     }
-    writeln!(out)
+}
+
+fn list(recording: &[u8]) -> Result<(), String> {
+    let mut records = vbus::records(recording).peekable();
+    if records.peek().is_none() && !recording.is_empty() {
+        let n = recording.len();
+        say(&format!("list: no record found, bytes looked at: {n}\n"));
+    }
+    write_out(|out| records.try_for_each(|entry| writeln!(out, "{}", entry.record)))
+}
+
+/// Lets `write` write to standard output.
+///
+/// Rust ignores the signal of a closed pipe, so that writing fails. Whoever closed it, such as
+/// `head`, has what it wanted: nothing is said, but the exit status is 1.
+///
+/// A standard input or output that was closed before the start can't be told: Rust opens /dev/null
+/// in its place before `main`. So an empty recording is listed, or the listing goes nowhere.
+fn write_out(write: impl FnOnce(&mut dyn Write) -> io::Result<()>) -> Result<(), String> {
+    let mut out = BufWriter::new(io::stdout().lock());
+    let written = write(&mut out).and_then(|()| out.flush());
+    written.map_err(|error| match error.kind() {
+        ErrorKind::BrokenPipe => String::new(),
+        _ => format!("list: standard output: {error}\n"),
+    })
+}
+
+/// Writes to standard error. If that fails there is nowhere left to say so.
+fn say(text: &str) {
+    let _ = io::stderr().write_all(text.as_bytes());
 }

@@ -1,36 +1,28 @@
 //! The archive's exports on slices. The functions only split these into pointer and count, and are
-//! inlined. The declarations are those of the `vbus` crate, which links the archive.
-
-// Sections and septets are not timed.
-#[allow(dead_code)]
-#[path = "../../vbus/src/sys.rs"]
-mod sys;
-
-// Named so that the archive is linked, though nothing of the crate is called.
-use vbus as _;
+//! inlined.
 
 #[inline(always)]
 pub fn checksum(block: &[u8]) -> u8 {
     // SAFETY: pointer and count are those of a slice.
-    unsafe { sys::vbus_checksum(block.as_ptr(), block.len()) }
+    unsafe { vbus_sys::vbus_checksum(block.as_ptr(), block.len()) }
 }
 
 #[inline(always)]
-pub fn validate(input: &[u8]) -> sys::Validation {
+pub fn validate(input: &[u8]) -> vbus_sys::Validation {
     // SAFETY: pointer and count are those of a slice.
-    unsafe { sys::vbus_validate(input.as_ptr(), input.len()) }
+    unsafe { vbus_sys::vbus_validate(input.as_ptr(), input.len()) }
 }
 
 #[inline(always)]
-pub fn next(input: &[u8], start: usize, payload: &mut [u8]) -> sys::Found {
+pub fn next(input: &[u8], start: usize, payload: &mut [u8]) -> vbus_sys::Found {
     let (pointer, room) = (payload.as_mut_ptr(), payload.len());
     // SAFETY: pointers and counts are those of slices that do not overlap.
-    unsafe { sys::vbus_next(input.as_ptr(), input.len(), start, pointer, room) }
+    unsafe { vbus_sys::vbus_next(input.as_ptr(), input.len(), start, pointer, room) }
 }
 
 #[inline(always)]
-pub fn encode(header: reference::Header, payload: &[u8], out: &mut [u8]) -> sys::Written {
-    let header = sys::Header {
+pub fn encode(header: reference::Header, payload: &[u8], out: &mut [u8]) -> vbus_sys::Written {
+    let header = vbus_sys::Header {
         version: header.version,
         destination: header.destination,
         source: header.source,
@@ -38,12 +30,12 @@ pub fn encode(header: reference::Header, payload: &[u8], out: &mut [u8]) -> sys:
     };
     let (pointer, room) = (out.as_mut_ptr(), out.len());
     // SAFETY: pointers and counts are those of slices that do not overlap.
-    unsafe { sys::vbus_encode(header, payload.as_ptr(), payload.len(), pointer, room) }
+    unsafe { vbus_sys::vbus_encode(header, payload.as_ptr(), payload.len(), pointer, room) }
 }
 
 #[inline(always)]
-pub fn normalize(input: &[u8], out: &mut [u8]) -> sys::Written {
+pub fn normalize(input: &[u8], out: &mut [u8]) -> vbus_sys::Written {
     let (pointer, room) = (out.as_mut_ptr(), out.len());
     // SAFETY: pointers and counts are those of slices that do not overlap.
-    unsafe { sys::vbus_normalize(input.as_ptr(), input.len(), pointer, room) }
+    unsafe { vbus_sys::vbus_normalize(input.as_ptr(), input.len(), pointer, room) }
 }

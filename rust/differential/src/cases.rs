@@ -260,6 +260,7 @@ impl Checker {
             let part = reference::section(header, payload, k);
             let bytes = &payload[part.start..part.start + part.length];
             self.holds(section.bytes() == bytes, what)?;
+            self.wrapped_temperatures(&section, what)?;
             let count = reference::element_count(header, payload, k);
             match section.elements() {
                 Err(error) => self.holds(error.number() == count.number, what)?,
@@ -274,6 +275,21 @@ impl Checker {
             }
         }
         Ok(())
+    }
+
+    /// A section's temperatures are there exactly if its type is 0x01, one for every two bytes.
+    fn wrapped_temperatures(
+        &mut self,
+        section: &vbus::Section,
+        what: impl Fn() -> String,
+    ) -> Checked<()> {
+        let pairs = section.payload().chunks_exact(2);
+        let expected = pairs.map(|pair| reference::temperature(&[pair[0], pair[1]]));
+        let same = match section.temperatures() {
+            Some(temperatures) => section.section_type() == 0x01 && temperatures.eq(expected),
+            None => section.section_type() != 0x01,
+        };
+        self.holds(same, what)
     }
 
     fn random_septets(&mut self) -> Checked<()> {
@@ -334,6 +350,7 @@ impl Checker {
         self.every_septet()?;
         self.every_section()?;
         self.every_block_header()?;
+        self.every_temperature()?;
         for length in 0..300 {
             let block = self.rng.bytes(length);
             self.checksum(&block)?;
@@ -568,6 +585,17 @@ impl Checker {
                 other.command ^= 1 << bit;
                 self.sections(other, &payload)?;
             }
+        }
+        Ok(())
+    }
+
+    fn every_temperature(&mut self) -> Checked<()> {
+        for word in 0..=u16::MAX {
+            let bytes = word.to_le_bytes();
+            let temperature = self.temperature(&bytes)?;
+            self.holds(vbus::temperature(&bytes) == temperature, || {
+                format!("vbus::temperature of {}", hex(&bytes))
+            })?;
         }
         Ok(())
     }

@@ -7,6 +7,7 @@ use std::collections::BTreeMap;
 use std::fmt;
 use std::fs::File;
 use std::io::{Seek, Write};
+use vbus::{Error, Verdict};
 
 /// A difference, described for the reader.
 #[derive(Debug)]
@@ -62,12 +63,16 @@ impl Output {
     }
 }
 
+/// The greatest numbers of refusals and verdicts.
+const LAST_ERROR: usize = Error::ALL[Error::ALL.len() - 1].number() as usize;
+const LAST_VERDICT: usize = Verdict::ALL[Verdict::ALL.len() - 1].number() as usize;
+
 pub struct Checker {
     pub rng: Rng,
     pub calls: u64,
     /// How often each number was answered, 0 for success.
-    pub numbers: [u64; 12],
-    pub verdicts: [u64; 8],
+    pub numbers: [u64; LAST_ERROR + 1],
+    pub verdicts: [u64; LAST_VERDICT + 1],
     pub cases: BTreeMap<&'static str, u64>,
     /// Takes the call about to be made, to name it if it does not come back.
     trace: Option<File>,
@@ -78,8 +83,8 @@ impl Checker {
         Checker {
             rng: Rng::new(seed),
             calls: 0,
-            numbers: [0; 12],
-            verdicts: [0; 8],
+            numbers: [0; LAST_ERROR + 1],
+            verdicts: [0; LAST_VERDICT + 1],
             cases: BTreeMap::new(),
             trace,
         }
@@ -141,6 +146,14 @@ impl Checker {
         )
     }
 
+    pub fn temperature(&mut self, bytes: &[u8; 2]) -> Checked<i16> {
+        self.same(
+            || format!("vbus_temperature(bytes = {})", hex(bytes)),
+            || library::temperature(bytes),
+            || reference::temperature(bytes),
+        )
+    }
+
     /// `extract` and `inject` on the same block, and each after the other.
     pub fn septets(&mut self, bytes: [u8; 7], length: usize, septet: u8) -> Checked<()> {
         let block = hex(&bytes);
@@ -183,7 +196,7 @@ impl Checker {
             let answer = vbus::inject(&mut block[..length], septet);
             let same = match put.number {
                 0 => answer == Ok(()) && block[..length] == put.bytes[..length],
-                _ => answer == Err(vbus::Error::WrongSeptetBlock) && block == bytes,
+                _ => answer == Err(Error::WrongSeptetBlock) && block == bytes,
             };
             self.holds(same, || {
                 format!("vbus::inject of {} and {septet}", hex(&bytes[..length]))

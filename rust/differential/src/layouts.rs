@@ -1,7 +1,7 @@
 //! Calls whose answers have another value in every field, so that a wrong layout shows.
 
 use crate::check::{Checked, Checker};
-use crate::library::{self, sys};
+use crate::library;
 use reference::{Count, Found, Header, Part, Septets, Validation, Written};
 use std::mem::{offset_of, size_of, transmute};
 
@@ -21,6 +21,19 @@ const STREAM: [u8; 22] = [
     0x44, 0x75, 0x66, 0x77, 0x02, 0x67, // 44 F5 66 77
 ];
 
+const BLOCK: Header = Header {
+    version: 0x10,
+    destination: 0x0015,
+    source: 0x5678,
+    command: 0x0100,
+};
+
+const SECTIONS: [u8; 32] = [
+    0, 0x77, 0, 0, // no payload
+    1, 0x08, 0, 0, 1, 2, 3, 4, // four relays
+    4, 0x01, 0, 0, 1, 2, 3, 4, 5, 6, 7, 8, 9, 10, 11, 12, 13, 14, 15, 16,
+];
+
 /// `Found` with the flag as the byte that it is.
 #[repr(C)]
 struct FoundBytes {
@@ -28,7 +41,7 @@ struct FoundBytes {
     found: u8,
     place: usize,
     length: usize,
-    header: sys::Header,
+    header: vbus_sys::Header,
     payload_length: usize,
 }
 
@@ -36,8 +49,13 @@ impl Checker {
     pub fn layouts(&mut self) -> Checked<()> {
         self.note(|| "the first layout check".to_string());
         self.sizes()?;
-        self.answers()?;
-        self.headers_by_value()?;
+        self.found()?;
+        self.small_answers()?;
+        self.septets_by_value()?;
+        self.encoded()?;
+        self.wrong_fields()?;
+        self.parts()?;
+        self.padding()?;
         self.flag()
     }
 
@@ -57,29 +75,29 @@ impl Checker {
 
     fn sizes(&mut self) -> Checked<()> {
         let sizes = [
-            size_of::<sys::Header>(),
-            size_of::<sys::Validation>(),
-            size_of::<sys::Found>(),
-            size_of::<sys::Written>(),
-            size_of::<sys::Count>(),
-            size_of::<sys::Part>(),
-            size_of::<sys::Septets>(),
+            size_of::<vbus_sys::Header>(),
+            size_of::<vbus_sys::Validation>(),
+            size_of::<vbus_sys::Found>(),
+            size_of::<vbus_sys::Written>(),
+            size_of::<vbus_sys::Count>(),
+            size_of::<vbus_sys::Part>(),
+            size_of::<vbus_sys::Septets>(),
         ];
         self.expect("sizes on x86-64", sizes, [8, 16, 40, 16, 16, 24, 32])?;
         let offsets = [
-            offset_of!(sys::Found, found),
-            offset_of!(sys::Found, place),
-            offset_of!(sys::Found, length),
-            offset_of!(sys::Found, header),
-            offset_of!(sys::Found, payload_length),
-            offset_of!(sys::Septets, bytes),
-            offset_of!(sys::Septets, length),
-            offset_of!(sys::Septets, septet),
+            offset_of!(vbus_sys::Found, found),
+            offset_of!(vbus_sys::Found, place),
+            offset_of!(vbus_sys::Found, length),
+            offset_of!(vbus_sys::Found, header),
+            offset_of!(vbus_sys::Found, payload_length),
+            offset_of!(vbus_sys::Septets, bytes),
+            offset_of!(vbus_sys::Septets, length),
+            offset_of!(vbus_sys::Septets, septet),
         ];
         self.expect("offsets on x86-64", offsets, [4, 8, 16, 24, 32, 4, 16, 24])
     }
 
-    fn answers(&mut self) -> Checked<()> {
+    fn found(&mut self) -> Checked<()> {
         let input = [&[0x01, 0x02, 0x03][..], &STREAM].concat();
         let mut payload = [0xEE; 9];
         let found = library::next(&input, 0, &mut payload);
@@ -103,8 +121,10 @@ impl Checker {
             number: 6,
             ..Found::default()
         };
-        self.expect("vbus_next behind the end", refused, expected)?;
+        self.expect("vbus_next behind the end", refused, expected)
+    }
 
+    fn small_answers(&mut self) -> Checked<()> {
         let mut wrong = STREAM;
         wrong[21] ^= 1;
         let verdict = Validation {
@@ -112,7 +132,14 @@ impl Checker {
             offset: 21,
         };
         self.expect("vbus_validate", library::validate(&wrong), verdict)?;
+        let value = library::value(&[0x11, 0x22, 0x84, 0x73, 0x62, 0xF1]);
+        self.expect("vbus_value", value, -0x0E9D_8C7C)?;
+        let temperature = library::temperature(&[0x84, 0xF1]);
+        self.expect("vbus_temperature", temperature, -0x0E7C)?;
+        self.expect("vbus_checksum", library::checksum(&STREAM[1..9]), 0x14)
+    }
 
+    fn septets_by_value(&mut self) -> Checked<()> {
         let block = [0x81, 0x02, 0x83, 0x84, 0x05, 0x99, 0x99];
         let septets = Septets {
             number: 0,
@@ -128,14 +155,10 @@ impl Checker {
             septet: 0,
         };
         let put = library::inject([0x01, 0x02, 0x03, 0x04, 0x05, 0x66, 0x99], 5, 0x0D);
-        self.expect("vbus_inject", put, back)?;
-
-        let value = library::value(&[0x11, 0x22, 0x84, 0x73, 0x62, 0xF1]);
-        self.expect("vbus_value", value, -0x0E9D_8C7C)?;
-        self.expect("vbus_checksum", library::checksum(&STREAM[1..9]), 0x14)
+        self.expect("vbus_inject", put, back)
     }
 
-    fn headers_by_value(&mut self) -> Checked<()> {
+    fn encoded(&mut self) -> Checked<()> {
         let mut out = [0xEE; 24];
         let written = library::encode(HEADER, &PAYLOAD, &mut out);
         let expected = Written {
@@ -144,9 +167,11 @@ impl Checker {
         };
         self.expect("vbus_encode", written, expected)?;
         self.expect("vbus_encode's stream", &out[..22], &STREAM[..])?;
-        self.expect("the bytes behind it", &out[22..], &[0xEE; 2][..])?;
+        self.expect("the bytes behind it", &out[22..], &[0xEE; 2][..])
+    }
 
-        // Each field alone decides a refusal, so none is taken for another.
+    /// Each field of a header alone decides a refusal, so none is taken for another.
+    fn wrong_fields(&mut self) -> Checked<()> {
         for (header, number) in [
             (
                 Header {
@@ -177,47 +202,41 @@ impl Checker {
                 3,
             ),
         ] {
-            let written = library::encode(header, &PAYLOAD, &mut out);
+            let written = library::encode(header, &PAYLOAD, &mut [0; 24]);
             self.expect("a wrong field", written, Written { number, length: 0 })?;
         }
+        Ok(())
+    }
 
-        let block = Header {
-            version: 0x10,
-            destination: 0x0015,
-            source: 0x5678,
-            command: 0x0100,
-        };
-        let payload = [
-            0, 0x77, 0, 0, // no payload
-            1, 0x08, 0, 0, 1, 2, 3, 4, // four relays
-            4, 0x01, 0, 0, 1, 2, 3, 4, 5, 6, 7, 8, 9, 10, 11, 12, 13, 14, 15, 16,
-        ];
+    fn parts(&mut self) -> Checked<()> {
         let count = |number, count| Count { number, count };
         let part = |number, start, length| Part {
             number,
             start,
             length,
         };
-        let answer = library::section_count(block, &payload);
+        let answer = library::section_count(BLOCK, &SECTIONS);
         self.expect("vbus_section_count", answer, count(0, 3))?;
-        let answer = library::section(block, &payload, 2);
+        let answer = library::section(BLOCK, &SECTIONS, 2);
         self.expect("vbus_section", answer, part(0, 12, 20))?;
-        let answer = library::element_count(block, &payload, 2);
+        let answer = library::element_count(BLOCK, &SECTIONS, 2);
         self.expect("vbus_element_count", answer, count(0, 8))?;
-        let answer = library::element(block, &payload, 2, 5);
+        let answer = library::element(BLOCK, &SECTIONS, 2, 5);
         self.expect("vbus_element", answer, part(0, 26, 2))?;
-        let answer = library::element(block, &payload, 0, 5);
-        self.expect("vbus_element", answer, part(11, 0, 0))?;
+        let answer = library::element(BLOCK, &SECTIONS, 0, 5);
+        self.expect("vbus_element", answer, part(11, 0, 0))
+    }
 
-        // The byte of padding in a header may hold anything.
-        type ByHeader = unsafe extern "C" fn(sys::Header, *const u8, usize) -> sys::Count;
-        type ByWord = unsafe extern "C" fn(u64, *const u8, usize) -> sys::Count;
+    /// The byte of padding in a header may hold anything.
+    fn padding(&mut self) -> Checked<()> {
+        type ByHeader = unsafe extern "C" fn(vbus_sys::Header, *const u8, usize) -> vbus_sys::Count;
+        type ByWord = unsafe extern "C" fn(u64, *const u8, usize) -> vbus_sys::Count;
         // SAFETY: a header of eight bytes is passed in one register, as a u64 is.
-        let by_word = unsafe { transmute::<ByHeader, ByWord>(sys::vbus_section_count) };
+        let by_word = unsafe { transmute::<ByHeader, ByWord>(vbus_sys::vbus_section_count) };
         for padding in [0x00, 0x5A, 0x80, 0xFF] {
             let word = u64::from_le_bytes([0x10, padding, 0x15, 0x00, 0x78, 0x56, 0x00, 0x01]);
             // SAFETY: pointer and count are those of an array.
-            let answer = unsafe { by_word(word, payload.as_ptr(), payload.len()) };
+            let answer = unsafe { by_word(word, SECTIONS.as_ptr(), SECTIONS.len()) };
             let answer = (answer.number, answer.count);
             self.expect("a header with padding", answer, (0, 3))?;
         }
@@ -226,11 +245,12 @@ impl Checker {
 
     /// The flag is 0 or 1, as C's and Rust's bool must be.
     fn flag(&mut self) -> Checked<()> {
-        type Next = unsafe extern "C" fn(*const u8, usize, usize, *mut u8, usize) -> sys::Found;
+        type Next =
+            unsafe extern "C" fn(*const u8, usize, usize, *mut u8, usize) -> vbus_sys::Found;
         type NextBytes =
             unsafe extern "C" fn(*const u8, usize, usize, *mut u8, usize) -> FoundBytes;
         // SAFETY: the two answers differ only in bool and u8, which have the same size.
-        let next = unsafe { transmute::<Next, NextBytes>(sys::vbus_next) };
+        let next = unsafe { transmute::<Next, NextBytes>(vbus_sys::vbus_next) };
         let mut out = [0; 8];
         for (start, room, expected) in [
             (0, 8, (0, 1, 0, 22, 0x1A2B, 8)),

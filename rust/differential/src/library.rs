@@ -1,14 +1,18 @@
 //! The archive's exports with the reference's types, so that answers can be compared.
-//!
-//! The declarations are those of the `vbus` crate, which links the archive.
 
 use reference::{Count, Found, Header, Part, Septets, Validation, Written};
 
-#[path = "../../vbus/src/sys.rs"]
-pub mod sys;
+/// An answer as the reference's struct of that name. Every field of both is named, so that none
+/// can be left out of a comparison.
+macro_rules! as_reference {
+    ($answer:expr => $name:ident { $($field:ident),+ }) => {{
+        let vbus_sys::$name { $($field),+ } = $answer;
+        $name { $($field),+ }
+    }};
+}
 
-pub fn header(header: Header) -> sys::Header {
-    sys::Header {
+pub fn header(header: Header) -> vbus_sys::Header {
+    vbus_sys::Header {
         version: header.version,
         destination: header.destination,
         source: header.source,
@@ -18,123 +22,98 @@ pub fn header(header: Header) -> sys::Header {
 
 pub fn checksum(block: &[u8]) -> u8 {
     // SAFETY: pointer and count are those of a slice.
-    unsafe { sys::vbus_checksum(block.as_ptr(), block.len()) }
-}
-
-fn septets(answer: sys::Septets) -> Septets {
-    Septets {
-        number: answer.number,
-        bytes: answer.bytes,
-        length: answer.length,
-        septet: answer.septet,
-    }
+    unsafe { vbus_sys::vbus_checksum(block.as_ptr(), block.len()) }
 }
 
 pub fn extract(bytes: [u8; 7], length: usize) -> Septets {
     // SAFETY: `bytes` is an array of seven bytes.
-    septets(unsafe { sys::vbus_extract(&bytes, length) })
+    let answer = unsafe { vbus_sys::vbus_extract(&bytes, length) };
+    as_reference!(answer => Septets { number, bytes, length, septet })
 }
 
 pub fn inject(bytes: [u8; 7], length: usize, septet: u8) -> Septets {
     // SAFETY: `bytes` is an array of seven bytes.
-    septets(unsafe { sys::vbus_inject(&bytes, length, septet) })
+    let answer = unsafe { vbus_sys::vbus_inject(&bytes, length, septet) };
+    as_reference!(answer => Septets { number, bytes, length, septet })
 }
 
 pub fn validate(input: &[u8]) -> Validation {
     // SAFETY: pointer and count are those of a slice.
-    let answer = unsafe { sys::vbus_validate(input.as_ptr(), input.len()) };
-    Validation {
-        verdict: answer.verdict,
-        offset: answer.offset,
-    }
+    let answer = unsafe { vbus_sys::vbus_validate(input.as_ptr(), input.len()) };
+    as_reference!(answer => Validation { verdict, offset })
 }
 
 pub fn next(input: &[u8], start: usize, payload: &mut [u8]) -> Found {
-    let room = payload.len();
+    let (pointer, room) = (payload.as_mut_ptr(), payload.len());
     // SAFETY: pointers and counts are those of slices that do not overlap.
-    let answer = unsafe {
-        sys::vbus_next(
-            input.as_ptr(),
-            input.len(),
-            start,
-            payload.as_mut_ptr(),
-            room,
-        )
-    };
+    let answer = unsafe { vbus_sys::vbus_next(input.as_ptr(), input.len(), start, pointer, room) };
+    let vbus_sys::Found {
+        number,
+        found,
+        place,
+        length,
+        header,
+        payload_length,
+    } = answer;
     Found {
-        number: answer.number,
-        found: answer.found,
-        place: answer.place,
-        length: answer.length,
-        header: Header {
-            version: answer.header.version,
-            destination: answer.header.destination,
-            source: answer.header.source,
-            command: answer.header.command,
-        },
-        payload_length: answer.payload_length,
-    }
-}
-
-fn written(answer: sys::Written) -> Written {
-    Written {
-        number: answer.number,
-        length: answer.length,
+        number,
+        found,
+        place,
+        length,
+        header: as_reference!(header => Header { version, destination, source, command }),
+        payload_length,
     }
 }
 
 pub fn encode(head: Header, payload: &[u8], out: &mut [u8]) -> Written {
-    let (pointer, room) = (out.as_mut_ptr(), out.len());
+    let (from, n) = (payload.as_ptr(), payload.len());
+    let (to, room) = (out.as_mut_ptr(), out.len());
     // SAFETY: pointers and counts are those of slices that do not overlap.
-    written(unsafe {
-        sys::vbus_encode(header(head), payload.as_ptr(), payload.len(), pointer, room)
-    })
+    let answer = unsafe { vbus_sys::vbus_encode(header(head), from, n, to, room) };
+    as_reference!(answer => Written { number, length })
 }
 
 pub fn normalize(input: &[u8], out: &mut [u8]) -> Written {
     let (pointer, room) = (out.as_mut_ptr(), out.len());
     // SAFETY: pointers and counts are those of slices that do not overlap.
-    written(unsafe { sys::vbus_normalize(input.as_ptr(), input.len(), pointer, room) })
+    let answer = unsafe { vbus_sys::vbus_normalize(input.as_ptr(), input.len(), pointer, room) };
+    as_reference!(answer => Written { number, length })
 }
 
 pub fn value(payload: &[u8; 6]) -> i32 {
     // SAFETY: `payload` is an array of six bytes.
-    unsafe { sys::vbus_value(payload) }
+    unsafe { vbus_sys::vbus_value(payload) }
 }
 
-fn count(answer: sys::Count) -> Count {
-    Count {
-        number: answer.number,
-        count: answer.count,
-    }
-}
-
-fn part(answer: sys::Part) -> Part {
-    Part {
-        number: answer.number,
-        start: answer.start,
-        length: answer.length,
-    }
+pub fn temperature(bytes: &[u8; 2]) -> i16 {
+    // SAFETY: `bytes` is an array of two bytes.
+    unsafe { vbus_sys::vbus_temperature(bytes) }
 }
 
 pub fn section_count(head: Header, payload: &[u8]) -> Count {
+    let (pointer, n) = (payload.as_ptr(), payload.len());
     // SAFETY: pointer and count are those of a slice.
-    count(unsafe { sys::vbus_section_count(header(head), payload.as_ptr(), payload.len()) })
+    let answer = unsafe { vbus_sys::vbus_section_count(header(head), pointer, n) };
+    as_reference!(answer => Count { number, count })
 }
 
 pub fn section(head: Header, payload: &[u8], section: usize) -> Part {
+    let (pointer, n) = (payload.as_ptr(), payload.len());
     // SAFETY: pointer and count are those of a slice.
-    part(unsafe { sys::vbus_section(header(head), payload.as_ptr(), payload.len(), section) })
+    let answer = unsafe { vbus_sys::vbus_section(header(head), pointer, n, section) };
+    as_reference!(answer => Part { number, start, length })
 }
 
 pub fn element_count(head: Header, payload: &[u8], section: usize) -> Count {
     let (pointer, n) = (payload.as_ptr(), payload.len());
     // SAFETY: pointer and count are those of a slice.
-    count(unsafe { sys::vbus_element_count(header(head), pointer, n, section) })
+    let answer = unsafe { vbus_sys::vbus_element_count(header(head), pointer, n, section) };
+    as_reference!(answer => Count { number, count })
 }
 
 pub fn element(head: Header, payload: &[u8], section: usize, element: usize) -> Part {
     let (pointer, n) = (payload.as_ptr(), payload.len());
     // SAFETY: pointer and count are those of a slice.
-    part(unsafe { sys::vbus_element(header(head), pointer, n, section, element) })
+    let answer = unsafe { vbus_sys::vbus_element(header(head), pointer, n, section, element) };
+    as_reference!(answer => Part { number, start, length })
 }

@@ -22,6 +22,7 @@ use std::process::{Child, Command, ExitCode, ExitStatus};
 use std::thread::sleep;
 use std::time::{Duration, Instant, SystemTime, UNIX_EPOCH};
 use std::{env, process};
+use vbus::{Error, Verdict};
 
 fn main() -> ExitCode {
     let args: Vec<String> = env::args().skip(1).collect();
@@ -163,13 +164,15 @@ fn compare(
 /// Every refusal and every verdict occurred, and the naive reading found records, or the run has
 /// shown less than it claims.
 fn complete(checker: &mut Checker) -> Checked<()> {
-    let numbers = checker.numbers;
-    for (number, count) in numbers.iter().enumerate() {
-        checker.holds(*count > 0, || format!("the answer {number} occurs"))?;
+    let errors = Error::ALL.iter().map(|error| error.number() as usize);
+    for number in errors.chain([0]) {
+        let count = checker.numbers[number];
+        checker.holds(count > 0, || format!("the answer {number} occurs"))?;
     }
-    let verdicts = checker.verdicts;
-    for (verdict, count) in verdicts.iter().enumerate() {
-        checker.holds(*count > 0, || format!("the verdict V{verdict} occurs"))?;
+    let verdicts = Verdict::ALL.iter().map(|verdict| verdict.number() as usize);
+    for number in verdicts.chain([0]) {
+        let count = checker.verdicts[number];
+        checker.holds(count > 0, || format!("the verdict V{number} occurs"))?;
     }
     for class in ["naive recordings", "naive records"] {
         let some = checker.cases.get(class).is_some_and(|count| *count > 0);

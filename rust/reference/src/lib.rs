@@ -483,6 +483,11 @@ pub fn value(payload: &[u8; 6]) -> i32 {
     i32::from_le_bytes(value)
 }
 
+/// A temperature of a section: its two bytes as a signed number.
+pub fn temperature(bytes: &[u8; 2]) -> i16 {
+    i16::from_le_bytes(*bytes)
+}
+
 /// Splits the first section off: its header and payload, and the rest.
 fn split_section(payload: &[u8]) -> Option<(&[u8], &[u8])> {
     payload.split_at_checked(4 + 4 * usize::from(*payload.first()?))

@@ -273,6 +273,14 @@ fn values() {
 }
 
 #[test]
+fn temperatures() {
+    assert_eq!(temperature(&[0xFF, 0xFF]), -1);
+    assert_eq!(temperature(&[0x00, 0x80]), i16::MIN);
+    assert_eq!(temperature(&[0xFF, 0x7F]), i16::MAX);
+    assert_eq!(temperature(&[0xEE, 0x02]), 750);
+}
+
+#[test]
 fn sections() {
     let payload = block_payload();
     assert_eq!(section_count(BLOCK, &payload).count, 4);

@@ -1,7 +1,11 @@
 //! The sections of block packets.
 
-use crate::{check, sys, Error, Header};
-use std::iter::FusedIterator;
+use core::iter::FusedIterator;
+
+use crate::{check, temperature, Error, Header};
+
+/// The type of a section whose elements are temperatures.
+const TEMPERATURES: u8 = 0x01;
 
 /// A section of a block packet's payload.
 #[derive(Clone, Copy, PartialEq, Eq, Debug)]
@@ -18,7 +22,7 @@ pub struct Section<'a> {
 pub fn section(header: Header, payload: &[u8], number: usize) -> Result<Section<'_>, Error> {
     // SAFETY: pointer and count are those of a slice.
     let part =
-        unsafe { sys::vbus_section(header.to_sys(), payload.as_ptr(), payload.len(), number) };
+        unsafe { vbus_sys::vbus_section(header.to_sys(), payload.as_ptr(), payload.len(), number) };
     check(part.number)?;
     Ok(Section {
         header,
@@ -54,7 +58,7 @@ impl<'a> Section<'a> {
     pub fn element_count(&self) -> Result<usize, Error> {
         // SAFETY: pointer and count are those of a slice.
         let count = unsafe {
-            sys::vbus_element_count(
+            vbus_sys::vbus_element_count(
                 self.header.to_sys(),
                 self.payload.as_ptr(),
                 self.payload.len(),
@@ -69,7 +73,7 @@ impl<'a> Section<'a> {
     pub fn element(&self, number: usize) -> Result<&'a [u8], Error> {
         // SAFETY: pointer and count are those of a slice.
         let part = unsafe {
-            sys::vbus_element(
+            vbus_sys::vbus_element(
                 self.header.to_sys(),
                 self.payload.as_ptr(),
                 self.payload.len(),
@@ -89,6 +93,25 @@ impl<'a> Section<'a> {
             count: self.element_count()?,
         })
     }
+
+    /// The temperatures of a section of type 0x01; `None` for other types.
+    ///
+    /// ```
+    /// let header = vbus::Header::packet(0x0015, 0x7E21, 0x0100);
+    /// let payload = [1, 0x01, 0, 0, 0xEE, 0x02, 0xFF, 0xFF, 1, 0x08, 0, 0, 100, 0, 0, 0];
+    /// let temperatures = vbus::section(header, &payload, 0)?.temperatures().unwrap();
+    /// assert!(temperatures.eq([750, -1]));
+    /// assert!(vbus::section(header, &payload, 1)?.temperatures().is_none());
+    /// # Ok::<(), vbus::Error>(())
+    /// ```
+    pub fn temperatures(&self) -> Option<impl ExactSizeIterator<Item = i16> + 'a> {
+        if self.section_type() != TEMPERATURES {
+            return None;
+        }
+        let elements = self.elements().expect("the type is known");
+        let two = |bytes: &'a [u8]| bytes.try_into().expect("a temperature has two bytes");
+        Some(elements.map(move |bytes| temperature(two(bytes))))
+    }
 }
 
 /// The sections of a block packet. Made by [`sections`].
@@ -103,7 +126,7 @@ pub struct Sections<'a> {
 /// The sections of a block packet, in order.
 ///
 /// ```
-/// let header = vbus::Header { version: 0x10, destination: 0x15, source: 0, command: 0x100 };
+/// let header = vbus::Header::packet(0x0015, 0x7E21, 0x0100);
 /// let payload = [0x01, 0x08, 0, 0, 100, 0, 30, 0, 0x01, 0x0B, 0, 0, 1, 0, 0, 0];
 /// let types: Vec<u8> = vbus::sections(header, &payload)?.map(|s| s.section_type()).collect();
 /// assert_eq!(types, [0x08, 0x0B]);
@@ -116,7 +139,7 @@ pub struct Sections<'a> {
 pub fn sections(header: Header, payload: &[u8]) -> Result<Sections<'_>, Error> {
     // SAFETY: pointer and count are those of a slice.
     let count =
-        unsafe { sys::vbus_section_count(header.to_sys(), payload.as_ptr(), payload.len()) };
+        unsafe { vbus_sys::vbus_section_count(header.to_sys(), payload.as_ptr(), payload.len()) };
     check(count.number)?;
     Ok(Sections {
         header,

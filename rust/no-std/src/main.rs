@@ -1,0 +1,119 @@
+//! Uses the library without std and without a heap, as firmware does.
+//!
+//! It has a panic handler of its own, which rustc refuses if vbus refers to std, and no allocator,
+//! which rustc asks for if vbus refers to alloc. Exit status 0: every answer is the expected one;
+//! otherwise it aborts.
+
+#![no_std]
+#![no_main]
+
+use core::fmt::{self, Write};
+use core::panic::PanicInfo;
+
+use vbus::{Error, Header, Kind};
+
+/// A telegram without a frame, behind the start of a stream that was cut off.
+const RECORDING: [u8; 11] = [
+    0xAA, 0x10, 0x20, 0xAA, 0x10, 0x20, 0x31, 0x77, 0x30, 0x01, 0x76,
+];
+
+// For the start-up code that calls main, and for memcpy and the like.
+#[link(name = "c")]
+extern "C" {
+    fn abort() -> !;
+}
+
+#[panic_handler]
+fn panic(_: &PanicInfo) -> ! {
+    // SAFETY: it may be called at any time.
+    unsafe { abort() }
+}
+
+/// Named by the tables of core, which was compiled to unwind; never called.
+#[no_mangle]
+pub extern "C" fn rust_eh_personality() {}
+
+#[no_mangle]
+pub extern "C" fn main() -> i32 {
+    reading();
+    writing();
+    septets();
+    sections();
+    0
+}
+
+fn reading() {
+    let mut buffer = [0; vbus::MAX_PAYLOAD];
+    let found = vbus::next(&RECORDING, 0, &mut buffer).unwrap().unwrap();
+    assert_eq!((found.place, found.length), (3, 8));
+    assert_eq!(found.header.kind(), Some(Kind::Telegram));
+    assert_eq!(Line::of(found).text(), "T 2010 7731 30 01");
+    let error = vbus::next(&RECORDING, 12, &mut buffer).unwrap_err();
+    let error: &dyn core::error::Error = &error;
+    let text = "the starting place lies past the input's end";
+    assert_eq!(Line::of(error).text(), text);
+    let fault = vbus::validate(&RECORDING).unwrap_err();
+    let fault: &dyn core::error::Error = &fault;
+    let text = "at offset 3: a later byte is 0x80 or more";
+    assert_eq!(Line::of(fault).text(), text);
+}
+
+fn writing() {
+    let mut out = [0; vbus::MAX_STREAM];
+    let header = Header::telegram(0x2010, 0x7731, 0x01);
+    assert_eq!(vbus::encode(header, &[], &mut out), Ok(8));
+    assert_eq!(out[..8], RECORDING[3..]);
+    assert_eq!(vbus::normalize(&RECORDING, &mut out), Ok(8));
+    let refused = vbus::normalize(&RECORDING, &mut out[..7]);
+    assert_eq!(refused, Err(Error::OutputTooShort));
+    assert_eq!(vbus::value(&[0x34, 0x12, 0xFE, 0xFF, 0xFF, 0xFF]), -2);
+    assert_eq!(vbus::parameter(&[0x34, 0x12, 0, 0, 0, 0]), 0x1234);
+}
+
+fn septets() {
+    let mut block = [0xE8, 0x03, 0xF4, 0x01];
+    assert_eq!(vbus::extract(&mut block), Ok(0x05));
+    assert_eq!(vbus::checksum(&block), 0x1F);
+    assert_eq!(vbus::inject(&mut block, 0x05), Ok(()));
+    assert_eq!(block, [0xE8, 0x03, 0xF4, 0x01]);
+}
+
+fn sections() {
+    let header = Header::packet(0x0015, 0x7E21, 0x0100);
+    let payload = [1, 0x01, 0, 0, 0xEE, 0x02, 0xFF, 0xFF];
+    let mut sections = vbus::sections(header, &payload).unwrap();
+    let section = sections.next().unwrap();
+    assert_eq!(section.element(1), Ok(&payload[6..]));
+    assert!(section.temperatures().unwrap().eq([750, -1]));
+    assert_eq!(vbus::temperature(&[0xEE, 0x02]), 750);
+    assert!(sections.next().is_none());
+}
+
+/// A line of text without a heap.
+struct Line {
+    bytes: [u8; 80],
+    length: usize,
+}
+
+impl Line {
+    fn of(shown: impl fmt::Display) -> Line {
+        let (bytes, length) = ([0; 80], 0);
+        let mut line = Line { bytes, length };
+        write!(line, "{shown}").unwrap();
+        line
+    }
+
+    fn text(&self) -> &str {
+        core::str::from_utf8(&self.bytes[..self.length]).unwrap()
+    }
+}
+
+impl Write for Line {
+    fn write_str(&mut self, text: &str) -> fmt::Result {
+        let end = self.length + text.len();
+        let room = self.bytes.get_mut(self.length..end).ok_or(fmt::Error)?;
+        room.copy_from_slice(text.as_bytes());
+        self.length = end;
+        Ok(())
+    }
+}

@@ -1,0 +1,168 @@
+//! The exports of `libvbus.a`, as `include/vbus.h` declares and explains them. The crate `vbus`
+//! makes safe calls of them.
+//!
+//! The archive is taken from the folder that the environment variable `VBUS_LIB_DIR` names at
+//! build time, else from `target/staticlib` at the repository's top, where `./build vbus` puts it.
+//!
+//! An answer's `number` is 0, or that of a refusal; every other field of a refused answer is 0.
+//!
+//! # Safety
+//!
+//! A pointer must be valid for as many bytes as the count beside it says (an array's for its
+//! length), for reading where const and for writing where mut. With count 0 it may be anything, null
+//! too. An output must not overlap an input. Nothing else is asked: any number may be passed.
+
+#![no_std]
+#![deny(missing_docs)]
+
+/// Everything of a record but its payload.
+#[repr(C)]
+#[derive(Clone, Copy, PartialEq, Eq, Debug, Default)]
+pub struct Header {
+    /// 0x10 for a packet, 0x20 for a datagram, 0x30 or 0x31 for a telegram.
+    pub version: u8,
+    /// The address of the receiver.
+    pub destination: u16,
+    /// The address of the sender.
+    pub source: u16,
+    /// What is asked or told.
+    pub command: u16,
+}
+
+/// What is wrong with a stretch of bytes, and where.
+#[repr(C)]
+#[derive(Clone, Copy, PartialEq, Eq, Debug, Default)]
+pub struct Validation {
+    /// 0 for a whole stream, else the number of the fault.
+    pub verdict: u8,
+    /// The offset of the fault, or the length of the stream.
+    pub offset: usize,
+}
+
+/// A record and where its stream lies.
+#[repr(C)]
+#[derive(Clone, Copy, PartialEq, Eq, Debug, Default)]
+pub struct Found {
+    /// 0, or the number of the refusal.
+    pub number: u32,
+    /// Whether there is a record.
+    pub found: bool,
+    /// Where its stream starts.
+    pub place: usize,
+    /// The length of its stream.
+    pub length: usize,
+    /// The record but for its payload.
+    pub header: Header,
+    /// Bytes written to the payload's buffer.
+    pub payload_length: usize,
+}
+
+/// How much was written.
+#[repr(C)]
+#[derive(Clone, Copy, PartialEq, Eq, Debug, Default)]
+pub struct Written {
+    /// 0, or the number of the refusal.
+    pub number: u32,
+    /// Bytes written.
+    pub length: usize,
+}
+
+/// How many there are.
+#[repr(C)]
+#[derive(Clone, Copy, PartialEq, Eq, Debug, Default)]
+pub struct Count {
+    /// 0, or the number of the refusal.
+    pub number: u32,
+    /// How many there are.
+    pub count: usize,
+}
+
+/// A part of a payload.
+#[repr(C)]
+#[derive(Clone, Copy, PartialEq, Eq, Debug, Default)]
+pub struct Part {
+    /// 0, or the number of the refusal.
+    pub number: u32,
+    /// Where the part starts.
+    pub start: usize,
+    /// Its length.
+    pub length: usize,
+}
+
+/// A block of at most seven bytes and its septet.
+#[repr(C)]
+#[derive(Clone, Copy, PartialEq, Eq, Debug, Default)]
+pub struct Septets {
+    /// 0, or the number of the refusal.
+    pub number: u32,
+    /// The block; 0 behind its length.
+    pub bytes: [u8; 7],
+    /// The block's length.
+    pub length: usize,
+    /// The top bits that were taken out.
+    pub septet: u8,
+}
+
+extern "C" {
+    /// The checksum of a block.
+    pub fn vbus_checksum(block: *const u8, n: usize) -> u8;
+
+    /// Takes the top bits out of a block.
+    pub fn vbus_extract(bytes: *const [u8; 7], length: usize) -> Septets;
+
+    /// Puts the top bits back into a block.
+    pub fn vbus_inject(bytes: *const [u8; 7], length: usize, septet: u8) -> Septets;
+
+    /// The first fault of the stream at the input's start.
+    pub fn vbus_validate(input: *const u8, n: usize) -> Validation;
+
+    /// The first record at `start` or later; its payload goes to `payload`.
+    pub fn vbus_next(
+        input: *const u8,
+        n: usize,
+        start: usize,
+        payload: *mut u8,
+        room: usize,
+    ) -> Found;
+
+    /// Writes a record's stream.
+    pub fn vbus_encode(
+        header: Header,
+        payload: *const u8,
+        n: usize,
+        out: *mut u8,
+        room: usize,
+    ) -> Written;
+
+    /// Writes the streams of all records of a recording.
+    pub fn vbus_normalize(input: *const u8, n: usize, out: *mut u8, room: usize) -> Written;
+
+    /// A datagram's value.
+    pub fn vbus_value(payload: *const [u8; 6]) -> i32;
+
+    /// A temperature of a block packet's section.
+    pub fn vbus_temperature(bytes: *const [u8; 2]) -> i16;
+
+    /// How many sections a block packet has.
+    pub fn vbus_section_count(header: Header, payload: *const u8, n: usize) -> Count;
+
+    /// Where a section is.
+    pub fn vbus_section(header: Header, payload: *const u8, n: usize, section: usize) -> Part;
+
+    /// How many elements a section has.
+    pub fn vbus_element_count(
+        header: Header,
+        payload: *const u8,
+        n: usize,
+        section: usize,
+    ) -> Count;
+
+    /// Where an element is.
+    pub fn vbus_element(
+        header: Header,
+        payload: *const u8,
+        n: usize,
+        section: usize,
+        element: usize,
+    ) -> Part;
+}

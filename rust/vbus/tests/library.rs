@@ -1,0 +1,185 @@
+//! What is there without the feature `std` too.
+
+mod samples;
+
+use samples::{D1, P1, T2};
+use vbus::*;
+
+/// A block packet's payload: relay speeds without a frame, two temperatures, an unknown type.
+const BLOCK: [u8; 20] = [
+    0, 0x08, 0, 0, 1, 0x01, 0, 0, 0x10, 0, 0x20, 0x80, 1, 0x77, 0, 0, 9, 9, 9, 9,
+];
+
+fn block_header() -> Header {
+    Header::packet(0x0015, 0x7E21, 0x0100)
+}
+
+#[test]
+fn listing() {
+    let recording = [&P1[..], &D1, &P1[..9], &T2].concat();
+    let mut buffer = [0; MAX_PAYLOAD];
+    let mut lines = String::new();
+    let mut start = 0;
+    while let Some(found) = next(&recording, start, &mut buffer).unwrap() {
+        lines += &format!("{found}\n");
+        start = found.place + found.length;
+    }
+    // The example of document 01.
+    assert_eq!(
+        lines,
+        "P 4411 6610 10 0200 07040F00\n\
+         D 0020 1911 20 0100 000000000000\n\
+         T 7731 2010 30 23 38900DB6C62300\n"
+    );
+}
+
+#[test]
+fn lines_that_no_stream_has() {
+    let line = |version, command| {
+        let header = Header {
+            version,
+            destination: 0x2010,
+            source: 0xFFFF,
+            command,
+        };
+        let found = Found {
+            place: 0,
+            length: 0,
+            header,
+            payload: &[0xAB],
+        };
+        found.to_string()
+    };
+    assert_eq!(line(0x11, 0x01), "? 2010 FFFF 11 0001 AB");
+    assert_eq!(line(0x00, 0xFFFF), "? 2010 FFFF 00 FFFF AB");
+    assert_eq!(line(0x31, 0xFF), "T 2010 FFFF 31 FF AB");
+    assert_eq!(line(0x30, 0x0100), "T 2010 FFFF 30 0100 AB");
+}
+
+#[test]
+fn headers() {
+    let fields = |header: Header| {
+        (
+            header.version,
+            header.destination,
+            header.source,
+            header.command,
+        )
+    };
+    assert_eq!(fields(Header::packet(1, 2, 3)), (0x10, 1, 2, 3));
+    assert_eq!(fields(Header::datagram(1, 2, 3)), (0x20, 1, 2, 3));
+    assert_eq!(fields(Header::telegram(1, 2, 3)), (0x30, 1, 2, 3));
+    assert_eq!(fields(Header::telegram_31(1, 2, 3)), (0x31, 1, 2, 3));
+}
+
+#[test]
+fn encoding() {
+    let mut out = [0xEE; 18];
+    let payload = [0x38, 0x90, 0x0D, 0xB6, 0xC6, 0x23, 0x00];
+    let header = Header::telegram(0x7731, 0x2010, 0x23);
+    assert_eq!(encode(header, &payload, &mut out), Ok(17));
+    assert_eq!(out[..17], T2);
+    assert_eq!(out[17], 0xEE);
+}
+
+#[test]
+fn normalizing() {
+    let recording = [&P1[..], &P1[..9], &T2].concat();
+    let mut out = [0xEE; 34];
+    let refused = normalize(&recording, &mut out[..32]);
+    assert_eq!(refused, Err(Error::OutputTooShort));
+    assert_eq!(out, [0xEE; 34]);
+    assert_eq!(normalize(&recording, &mut out), Ok(33));
+    assert_eq!(out[..], [&P1[..], &T2, &[0xEE]].concat());
+}
+
+#[test]
+fn refusals() {
+    let encoded = |header, length| encode(header, &[0; MAX_STREAM][..length], &mut [0; MAX_STREAM]);
+    let packet = |source, command| Header::packet(0x0015, source, command);
+    let unknown = Header {
+        version: 0x11,
+        ..packet(0, 0)
+    };
+    assert_eq!(encoded(unknown, 0), Err(Error::UnknownVersion));
+    assert_eq!(encoded(packet(0x80, 0), 0), Err(Error::HighAddress));
+    assert_eq!(encoded(packet(0, 0x80), 0), Err(Error::HighCommand));
+    assert_eq!(encoded(packet(0, 0), 3), Err(Error::WrongLength));
+    assert_eq!(next(&P1, 0, &mut [0; 3]), Err(Error::OutputTooShort));
+    assert_eq!(next(&P1, 17, &mut []), Err(Error::StartPastEnd));
+    assert_eq!(extract(&mut [0; 8]), Err(Error::WrongSeptetBlock));
+    assert_eq!(inject(&mut [0x80], 0), Err(Error::WrongSeptetBlock));
+    let block = block_header();
+    assert_eq!(section(unknown, &[], 0), Err(Error::NotBlockPacket));
+    assert_eq!(section(block, &[1, 1, 0, 0], 0), Err(Error::SectionPastEnd));
+    assert_eq!(section(block, &[0, 1, 0, 0], 1), Err(Error::NoSuchPart));
+    let unknown = section(block, &[0, 0x77, 0, 0], 0).unwrap();
+    assert_eq!(unknown.element(0), Err(Error::UnknownSectionType));
+}
+
+#[test]
+fn faults() {
+    let fault = |changes: &[(usize, u8)]| {
+        let mut stream = P1;
+        for &(at, byte) in changes {
+            stream[at] = byte;
+        }
+        let fault = validate(&stream).unwrap_err();
+        (fault.verdict, fault.offset)
+    };
+    assert_eq!(validate(&P1), Ok(16));
+    assert_eq!(fault(&[(0, 0x2A)]), (Verdict::NoSync, 0));
+    assert_eq!(fault(&[(3, 0x80)]), (Verdict::HighByte, 3));
+    assert_eq!(fault(&[(5, 0x11)]), (Verdict::UnknownVersion, 5));
+    assert_eq!(fault(&[(9, 0x20)]), (Verdict::HeaderChecksum, 9));
+    // With its checksum right.
+    let unused = [(14, 0x10), (15, 0x55)];
+    assert_eq!(fault(&unused), (Verdict::UnusedSeptetBit, 14));
+    assert_eq!(fault(&[(15, 0x64)]), (Verdict::FrameChecksum, 15));
+    let ended = Fault {
+        verdict: Verdict::Ended,
+        offset: 15,
+    };
+    assert_eq!(validate(&P1[..15]), Err(ended));
+}
+
+#[test]
+fn datagrams() {
+    let found = |header, payload| Found {
+        place: 0,
+        length: 16,
+        header,
+        payload,
+    };
+    let payload = [0x34, 0x92, 0xFE, 0xFF, 0xFF, 0xFF];
+    let datagram = found(Header::datagram(0, 0, 0), &payload);
+    assert_eq!(datagram.parameter(), Some(0x9234));
+    assert_eq!(datagram.value(), Some(-2));
+    let telegram = found(Header::telegram(0, 0, 0), &payload);
+    assert_eq!((telegram.parameter(), telegram.value()), (None, None));
+    let short = found(Header::datagram(0, 0, 0), &payload[..5]);
+    assert_eq!((short.parameter(), short.value()), (None, None));
+}
+
+#[test]
+fn block_packet() {
+    let found = Found {
+        place: 0,
+        length: 40,
+        header: block_header(),
+        payload: &BLOCK,
+    };
+    let sections: Vec<Section> = found.sections().unwrap().collect();
+    assert_eq!(sections.len(), 3);
+    assert_eq!(sections[0].elements().unwrap().len(), 0);
+    assert_eq!(sections[1].start(), 4);
+    assert_eq!(sections[1].payload(), [0x10, 0, 0x20, 0x80]);
+    let elements: Vec<&[u8]> = sections[1].elements().unwrap().collect();
+    assert_eq!(elements, [[0x10, 0], [0x20, 0x80]]);
+    assert_eq!(sections[2].element_count(), Err(Error::UnknownSectionType));
+    assert_eq!(sections[2].payload(), [9; 4]);
+    assert!(sections[0].temperatures().is_none());
+    assert!(sections[2].temperatures().is_none());
+    let temperatures: Vec<i16> = sections[1].temperatures().unwrap().collect();
+    assert_eq!(temperatures, [0x10, -0x7FE0]);
+}
