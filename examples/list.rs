@@ -4,14 +4,15 @@
 //! In `rust`: `cargo run --example list -- ../recordings/plant.vbus`, or without a name and the
 //! recording as standard input.
 //!
-//! Exit status: 0 listed; 1 the recording couldn't be read, or the listing couldn't be written;
+//! Exit status: 0 listed; 1 the recording couldn't be read whole, or the listing couldn't be written;
 //! 2 wrong use.
 
 use std::ffi::OsString;
+use std::fs::File;
 use std::io::{self, BufWriter, ErrorKind, IsTerminal, Read, Write};
-use std::path::{Path, PathBuf};
+use std::path::PathBuf;
 use std::process::ExitCode;
-use std::{env, fs};
+use std::{env, fmt};
 
 const USAGE: &str = "\
 usage: list FILE, or list < FILE
@@ -54,21 +55,24 @@ fn task(mut arguments: Vec<OsString>) -> Option<Task> {
 fn run(task: Task) -> Result<(), String> {
     match task {
         Task::Help => write_out(|out| out.write_all(USAGE.as_bytes())),
-        Task::File(file) => list(&read_file(&file)?),
-        Task::StandardInput => list(&read_standard_input()?),
+        Task::File(file) => match File::open(&file) {
+            Ok(recording) => list_from(recording, file.display()),
+            Err(error) => Err(failure(file.display(), &error)),
+        },
+        Task::StandardInput => list_from(io::stdin().lock(), "standard input"),
     }
 }
 
-fn read_file(file: &Path) -> Result<Vec<u8>, String> {
-    fs::read(file).map_err(|error| format!("list: {}: {error}\n", file.display()))
+fn failure(what: impl fmt::Display, error: &io::Error) -> String {
+    format!("list: {what}: {error}\n")
 }
 
-fn read_standard_input() -> Result<Vec<u8>, String> {
-    let mut bytes = Vec::new();
-    match io::stdin().lock().read_to_end(&mut bytes) {
-        Ok(_) => Ok(bytes),
-        Err(error) => Err(format!("list: standard input: {error}\n")),
-    }
+/// Lists what can be read: what came before a read that fails isn't lost.
+fn list_from(mut input: impl Read, name: impl fmt::Display) -> Result<(), String> {
+    let mut recording = Vec::new();
+    let read = input.read_to_end(&mut recording);
+    list(&recording)?;
+    read.map(drop).map_err(|error| failure(name, &error))
 }
 
 fn list(recording: &[u8]) -> Result<(), String> {
@@ -92,7 +96,7 @@ fn write_out(write: impl FnOnce(&mut dyn Write) -> io::Result<()>) -> Result<(),
     let written = write(&mut out).and_then(|()| out.flush());
     written.map_err(|error| match error.kind() {
         ErrorKind::BrokenPipe => String::new(),
-        _ => format!("list: standard output: {error}\n"),
+        _ => failure("standard output", &error),
     })
 }
 
