@@ -1,7 +1,7 @@
 /*
  * Calls every export with values that differ from field to field, so that a field at the wrong place or of the wrong
- * width shows; every refusal number with its buffers filled beforehand, which must stay; and every slice as NULL with
- * count 0. The last line is 'N passed, M failed'.
+ * width shows; every refusal with its buffers filled beforehand, which must stay; and every slice as NULL with count 0.
+ * Compares the header's names with document 01's numbers. The last line is 'N passed, M failed'.
  */
 #include <stdio.h>
 #include <string.h>
@@ -54,6 +54,10 @@ static int found_is(vbus_found a, uint32_t number, int found, size_t place, size
            a.header.version == h.version && a.header.destination == h.destination && a.header.source == h.source &&
            a.header.command == h.command && a.payload_length == payload_length;
 }
+static int nothing_found(vbus_found a, uint32_t number) {
+    const vbus_header none = {0, 0, 0, 0};
+    return found_is(a, number, 0, 0, 0, none, 0);
+}
 static int written_is(vbus_written a, uint32_t number, size_t length) { return a.number == number && a.length == length; }
 static int count_is(vbus_count a, uint32_t number, size_t count) { return a.number == number && a.count == count; }
 static int part_is(vbus_part a, uint32_t number, size_t start, size_t length) {
@@ -66,7 +70,43 @@ static int validation_is(vbus_validation a, uint8_t verdict, size_t offset) {
     return a.verdict == verdict && a.offset == offset;
 }
 
-static const vbus_header nothing = {0, 0, 0, 0};
+/* Document 01's numbers, written out once more: a name that has another one in the header shows here. */
+static const struct {
+    const char *name;
+    long here, document;
+} numbers[] = {
+#define NUMBER(name, document) {#name, name, document}
+    NUMBER(VBUS_PACKET, 0x10),
+    NUMBER(VBUS_DATAGRAM, 0x20),
+    NUMBER(VBUS_TELEGRAM, 0x30),
+    NUMBER(VBUS_TELEGRAM_31, 0x31),
+    NUMBER(VBUS_UNKNOWN_VERSION, 1),
+    NUMBER(VBUS_HIGH_ADDRESS, 2),
+    NUMBER(VBUS_HIGH_COMMAND, 3),
+    NUMBER(VBUS_WRONG_LENGTH, 4),
+    NUMBER(VBUS_OUTPUT_TOO_SHORT, 5),
+    NUMBER(VBUS_START_PAST_END, 6),
+    NUMBER(VBUS_WRONG_SEPTET_BLOCK, 7),
+    NUMBER(VBUS_NOT_BLOCK_PACKET, 8),
+    NUMBER(VBUS_SECTION_PAST_END, 9),
+    NUMBER(VBUS_NO_SUCH_PART, 10),
+    NUMBER(VBUS_UNKNOWN_SECTION_TYPE, 11),
+    NUMBER(VBUS_VERDICT_WHOLE, 0),
+    NUMBER(VBUS_VERDICT_NO_SYNC, 1),
+    NUMBER(VBUS_VERDICT_HIGH_BYTE, 2),
+    NUMBER(VBUS_VERDICT_UNKNOWN_VERSION, 3),
+    NUMBER(VBUS_VERDICT_HEADER_CHECKSUM, 4),
+    NUMBER(VBUS_VERDICT_UNUSED_SEPTET_BIT, 5),
+    NUMBER(VBUS_VERDICT_FRAME_CHECKSUM, 6),
+    NUMBER(VBUS_VERDICT_ENDED, 7),
+    NUMBER(VBUS_MAX_PAYLOAD, 508),
+    NUMBER(VBUS_MAX_STREAM, 772),
+};
+
+static void names(void) {
+    for (size_t i = 0; i < sizeof numbers / sizeof *numbers; i++)
+        check(numbers[i].name, numbers[i].here == numbers[i].document, __LINE__);
+}
 
 #define WIDTH(type, field) sizeof(((type *)0)->field)
 
@@ -107,11 +147,11 @@ static void checksum_and_septets(void) {
     CHECK(septets_are(vbus_inject(high, 0, 0), 0, (const uint8_t[7]){0}, 0, 0));
 
     const uint8_t zero[7] = {0};
-    CHECK(septets_are(vbus_extract(high, 8), 7, zero, 0, 0));
-    CHECK(septets_are(vbus_inject(low7, 8, 0x05), 7, zero, 0, 0));
-    CHECK(septets_are(vbus_inject(high, 4, 0x05), 7, zero, 0, 0));
-    CHECK(septets_are(vbus_inject(low7, 7, 0x80), 7, zero, 0, 0));
-    CHECK(septets_are(vbus_inject(low7, 4, 0x10), 7, zero, 0, 0));
+    CHECK(septets_are(vbus_extract(high, 8), VBUS_WRONG_SEPTET_BLOCK, zero, 0, 0));
+    CHECK(septets_are(vbus_inject(low7, 8, 0x05), VBUS_WRONG_SEPTET_BLOCK, zero, 0, 0));
+    CHECK(septets_are(vbus_inject(high, 4, 0x05), VBUS_WRONG_SEPTET_BLOCK, zero, 0, 0));
+    CHECK(septets_are(vbus_inject(low7, 7, 0x80), VBUS_WRONG_SEPTET_BLOCK, zero, 0, 0));
+    CHECK(septets_are(vbus_inject(low7, 4, 0x10), VBUS_WRONG_SEPTET_BLOCK, zero, 0, 0));
 }
 
 /* A packet of 5 frames: every field differs from every other, and so do the bytes within each. */
@@ -140,64 +180,76 @@ static const uint8_t telegram[17] = {0xAA, 0x31, 0x77, 0x10, 0x20, 0x30, 0x23, 0
 static const uint8_t telegram_payload[7] = {0x38, 0x90, 0x0D, 0xB6, 0xC6, 0x23, 0x00};
 static const uint8_t clearance[8] = {0xAA, 0x10, 0x20, 0x31, 0x77, 0x30, 0x01, 0x76};
 
-static void reading(void) {
-    uint8_t packet[40], input[3 + 40 + 17 + 8 + 16], payload[64];
-    packet_of(packet);
+static vbus_header packet_header(void) { return header(VBUS_PACKET, 0x1234, 0x5671, 0x2B4C); }
+static vbus_header datagram_header(void) { return header(VBUS_DATAGRAM, 0x0020, 0x1911, 0x0100); }
+static vbus_header telegram_header(void) { return header(VBUS_TELEGRAM, 0x7731, 0x2010, 0x23); }
+static vbus_header clearance_header(void) { return header(VBUS_TELEGRAM, 0x2010, 0x7731, 0x01); }
+
+/* a recording: noise, then all four */
+#define MIXED (3 + 40 + 17 + 8 + 16)
+static void mix(uint8_t input[MIXED]) {
     memcpy(input, "\x01\xAA\x99", 3);
-    memcpy(input + 3, packet, 40);
+    packet_of(input + 3);
     memcpy(input + 43, telegram, 17);
     memcpy(input + 60, clearance, 8);
     memcpy(input + 68, datagram, 16);
-    const size_t n = sizeof input;
+}
 
-    CHECK(validation_is(vbus_validate(packet, 40), 0, 40));
-    CHECK(validation_is(vbus_validate(input + 3, n - 3), 0, 40));
-    CHECK(validation_is(vbus_validate(packet + 1, 39), 1, 0));
-    CHECK(validation_is(vbus_validate(input + 1, n - 1), 2, 1));
-    uint8_t bad[40];
+static void verdicts(void) {
+    uint8_t packet[40], bad[40], input[MIXED];
+    packet_of(packet);
+    mix(input);
+    CHECK(validation_is(vbus_validate(packet, 40), VBUS_VERDICT_WHOLE, 40));
+    CHECK(validation_is(vbus_validate(input + 3, MIXED - 3), VBUS_VERDICT_WHOLE, 40));
+    CHECK(validation_is(vbus_validate(packet + 1, 39), VBUS_VERDICT_NO_SYNC, 0));
+    CHECK(validation_is(vbus_validate(input + 1, MIXED - 1), VBUS_VERDICT_HIGH_BYTE, 1));
     memcpy(bad, packet, 40);
     bad[5] = 0x40;
-    CHECK(validation_is(vbus_validate(bad, 40), 3, 5));
-    bad[5] = 0x10;
+    CHECK(validation_is(vbus_validate(bad, 40), VBUS_VERDICT_UNKNOWN_VERSION, 5));
+    bad[5] = packet[5];
     bad[9] ^= 1;
-    CHECK(validation_is(vbus_validate(bad, 40), 4, 9));
-    bad[9] ^= 1;
+    CHECK(validation_is(vbus_validate(bad, 40), VBUS_VERDICT_HEADER_CHECKSUM, 9));
+    bad[9] = packet[9];
     bad[26] = 0x10;
-    CHECK(validation_is(vbus_validate(bad, 40), 5, 26));
+    CHECK(validation_is(vbus_validate(bad, 40), VBUS_VERDICT_UNUSED_SEPTET_BIT, 26));
     bad[26] = packet[26];
     bad[39] ^= 1;
-    CHECK(validation_is(vbus_validate(bad, 40), 6, 39));
-    CHECK(validation_is(vbus_validate(packet, 39), 7, 39));
+    CHECK(validation_is(vbus_validate(bad, 40), VBUS_VERDICT_FRAME_CHECKSUM, 39));
+    CHECK(validation_is(vbus_validate(packet, 39), VBUS_VERDICT_ENDED, 39));
+}
 
-    const vbus_header of_packet = header(0x10, 0x1234, 0x5671, 0x2B4C);
+static void finding(void) {
+    uint8_t input[MIXED], payload[64];
+    mix(input);
     paint(payload, sizeof payload);
-    CHECK(found_is(vbus_next(input, n, 0, payload, sizeof payload), 0, 1, 3, 40, of_packet, 20));
+    CHECK(found_is(vbus_next(input, MIXED, 0, payload, sizeof payload), 0, 1, 3, 40, packet_header(), 20));
     CHECK(memcmp(payload, payload20, 20) == 0 && painted(payload, 20, sizeof payload));
     paint(payload, sizeof payload);
-    CHECK(found_is(vbus_next(input, n, 4, payload, 7), 0, 1, 43, 17, header(0x30, 0x7731, 0x2010, 0x23), 7));
+    CHECK(found_is(vbus_next(input, MIXED, 4, payload, 7), 0, 1, 43, 17, telegram_header(), 7));
     CHECK(memcmp(payload, telegram_payload, 7) == 0 && painted(payload, 7, sizeof payload));
     paint(payload, sizeof payload);
-    CHECK(found_is(vbus_next(input, n, 44, payload, 0), 0, 1, 60, 8, header(0x30, 0x2010, 0x7731, 0x01), 0));
-    CHECK(found_is(vbus_next(input, n, 61, payload, 6), 0, 1, 68, 16, header(0x20, 0x0020, 0x1911, 0x0100), 6));
+    CHECK(found_is(vbus_next(input, MIXED, 44, payload, 0), 0, 1, 60, 8, clearance_header(), 0));
+    CHECK(found_is(vbus_next(input, MIXED, 61, payload, 6), 0, 1, 68, 16, datagram_header(), 6));
     CHECK(memcmp(payload, "\0\0\0\0\0\0", 6) == 0 && painted(payload, 6, sizeof payload));
     paint(payload, sizeof payload);
-    CHECK(found_is(vbus_next(input, n, 69, payload, sizeof payload), 0, 0, 0, 0, nothing, 0));
-    CHECK(found_is(vbus_next(input, n, n, payload, sizeof payload), 0, 0, 0, 0, nothing, 0));
+    CHECK(nothing_found(vbus_next(input, MIXED, 69, payload, sizeof payload), 0));
+    CHECK(nothing_found(vbus_next(input, MIXED, MIXED, payload, sizeof payload), 0));
+    CHECK(nothing_found(vbus_next(input, MIXED, 0, payload, 19), VBUS_OUTPUT_TOO_SHORT));
+    CHECK(nothing_found(vbus_next(input, MIXED, MIXED + 1, payload, 0), VBUS_START_PAST_END));
     CHECK(painted(payload, 0, sizeof payload));
-    CHECK(found_is(vbus_next(input, n, 0, payload, 19), 5, 0, 0, 0, nothing, 0));
-    CHECK(painted(payload, 0, sizeof payload));
-    CHECK(found_is(vbus_next(input, n, n + 1, payload, 0), 6, 0, 0, 0, nothing, 0));
-    CHECK(painted(payload, 0, sizeof payload));
+}
 
-    uint8_t out[96];
+static void normalizing(void) {
+    uint8_t input[MIXED], out[96];
+    mix(input);
     paint(out, sizeof out);
-    CHECK(written_is(vbus_normalize(input, n, out, sizeof out), 0, 81));
+    CHECK(written_is(vbus_normalize(input, MIXED, out, sizeof out), 0, 81));
     CHECK(memcmp(out, input + 3, 81) == 0 && painted(out, 81, sizeof out));
     paint(out, sizeof out);
-    CHECK(written_is(vbus_normalize(input, n, out, 81), 0, 81));
+    CHECK(written_is(vbus_normalize(input, MIXED, out, 81), 0, 81));
     CHECK(memcmp(out, input + 3, 81) == 0 && painted(out, 81, sizeof out));
     paint(out, sizeof out);
-    CHECK(written_is(vbus_normalize(input, n, out, 80), 5, 0));
+    CHECK(written_is(vbus_normalize(input, MIXED, out, 80), VBUS_OUTPUT_TOO_SHORT, 0));
     CHECK(painted(out, 0, sizeof out));
 }
 
@@ -205,104 +257,164 @@ static void writing(void) {
     uint8_t packet[40], out[64];
     packet_of(packet);
     paint(out, sizeof out);
-    CHECK(written_is(vbus_encode(header(0x10, 0x1234, 0x5671, 0x2B4C), payload20, 20, out, sizeof out), 0, 40));
+    CHECK(written_is(vbus_encode(packet_header(), payload20, 20, out, sizeof out), 0, 40));
     CHECK(memcmp(out, packet, 40) == 0 && painted(out, 40, sizeof out));
     paint(out, sizeof out);
-    CHECK(written_is(vbus_encode(header(0x20, 0x0020, 0x1911, 0x0100), (const uint8_t *)"\0\0\0\0\0\0", 6, out, 16), 0, 16));
+    CHECK(written_is(vbus_encode(datagram_header(), (const uint8_t *)"\0\0\0\0\0\0", 6, out, 16), 0, 16));
     CHECK(memcmp(out, datagram, 16) == 0 && painted(out, 16, sizeof out));
     paint(out, sizeof out);
-    CHECK(written_is(vbus_encode(header(0x30, 0x7731, 0x2010, 0x23), telegram_payload, 7, out, sizeof out), 0, 17));
+    CHECK(written_is(vbus_encode(telegram_header(), telegram_payload, 7, out, sizeof out), 0, 17));
     CHECK(memcmp(out, telegram, 17) == 0 && painted(out, 17, sizeof out));
     paint(out, sizeof out);
-    CHECK(written_is(vbus_encode(header(0x30, 0x2010, 0x7731, 0x01), payload20, 0, out, 8), 0, 8));
+    CHECK(written_is(vbus_encode(clearance_header(), payload20, 0, out, 8), 0, 8));
     CHECK(memcmp(out, clearance, 8) == 0 && painted(out, 8, sizeof out));
+}
 
+/* encode's refusal of three payload bytes without room, so that every later refusal applies too */
+static uint32_t refusal(uint8_t version, uint16_t destination, uint16_t source, uint16_t command) {
+    uint8_t out[64];
     paint(out, sizeof out);
-    CHECK(written_is(vbus_encode(header(0x11, 0x0080, 0x5671, 0x8000), payload20, 3, out, 0), 1, 0));
-    CHECK(written_is(vbus_encode(header(0x10, 0x0080, 0x5671, 0x8000), payload20, 3, out, 0), 2, 0));
-    CHECK(written_is(vbus_encode(header(0x10, 0x1234, 0x8071, 0x8000), payload20, 3, out, 0), 2, 0));
-    CHECK(written_is(vbus_encode(header(0x10, 0x1234, 0x5671, 0x8000), payload20, 3, out, 0), 3, 0));
-    CHECK(written_is(vbus_encode(header(0x30, 0x1234, 0x5671, 0x0100), payload20, 3, out, 0), 3, 0));
-    CHECK(written_is(vbus_encode(header(0x10, 0x1234, 0x5671, 0x2B4C), payload20, 3, out, 0), 4, 0));
-    CHECK(written_is(vbus_encode(header(0x10, 0x1234, 0x5671, 0x2B4C), payload20, 20, out, 39), 5, 0));
-    CHECK(painted(out, 0, sizeof out));
+    vbus_written answer = vbus_encode(header(version, destination, source, command), payload20, 3, out, 0);
+    CHECK(answer.length == 0 && painted(out, 0, sizeof out));
+    return answer.number;
+}
 
+static void refused_writing(void) {
+    CHECK(refusal(0x11, 0x0080, 0x5671, 0x8000) == VBUS_UNKNOWN_VERSION);
+    CHECK(refusal(VBUS_PACKET, 0x0080, 0x5671, 0x8000) == VBUS_HIGH_ADDRESS);
+    CHECK(refusal(VBUS_PACKET, 0x1234, 0x8071, 0x8000) == VBUS_HIGH_ADDRESS);
+    CHECK(refusal(VBUS_PACKET, 0x1234, 0x5671, 0x8000) == VBUS_HIGH_COMMAND);
+    CHECK(refusal(VBUS_TELEGRAM, 0x1234, 0x5671, 0x0100) == VBUS_HIGH_COMMAND);
+    CHECK(refusal(VBUS_TELEGRAM_31, 0x1234, 0x5671, 0x0080) == VBUS_HIGH_COMMAND);
+    CHECK(refusal(VBUS_PACKET, 0x1234, 0x5671, 0x2B4C) == VBUS_WRONG_LENGTH);
+    uint8_t out[64];
+    paint(out, sizeof out);
+    CHECK(written_is(vbus_encode(packet_header(), payload20, 20, out, 39), VBUS_OUTPUT_TOO_SHORT, 0));
+    CHECK(painted(out, 0, sizeof out));
+}
+
+/* as a wider type, so that a declaration without the sign shows */
+static long temperature(uint8_t low, uint8_t high) {
+    const uint8_t bytes[2] = {low, high};
+    return vbus_temperature(bytes);
+}
+
+static void signed_numbers(void) {
     const uint8_t value[6] = {0x11, 0x22, 0xFE, 0x56, 0x34, 0x92};
+    CHECK(sizeof vbus_value(value) == 4 && sizeof vbus_temperature(value) == 2);
     CHECK(vbus_value(value) == -1842063618);
     CHECK(vbus_value((const uint8_t *)"\x11\x22\xFF\xFF\xFF\xFF") == -1);
     CHECK(vbus_value((const uint8_t *)"\x11\x22\x04\x03\x02\x01") == 0x01020304);
+
+    CHECK(temperature(0x00, 0x00) == 0);
+    CHECK(temperature(0x01, 0x00) == 1);
+    CHECK(temperature(0x80, 0x00) == 128);
+    CHECK(temperature(0x34, 0x12) == 0x1234);
+    CHECK(temperature(0xFF, 0x7F) == 32767);
+    CHECK(temperature(0x00, 0x80) == -32768);
+    CHECK(temperature(0x34, 0x92) == -28108);
+    CHECK(temperature(0x80, 0xFF) == -128);
+    CHECK(temperature(0xFF, 0xFF) == -1);
+    long wrong = 0;
+    for (long word = 0; word < 65536; word++)
+        wrong += temperature((uint8_t)(word % 256), (uint8_t)(word / 256)) != (word < 32768 ? word : word - 65536);
+    CHECK(wrong == 0);
 }
 
-static void blocks(void) {
-    /* three sections: 3 frames of temperatures, 1 frame of an unknown type, 4 frames of display */
-    uint8_t payload[44], before[44];
-    paint(payload, sizeof payload);
+/* three sections: 3 frames of temperatures, 1 frame of an unknown type, 4 frames of display */
+#define BLOCKS 44
+static void block_payload(uint8_t payload[BLOCKS]) {
+    paint(payload, BLOCKS);
     memcpy(payload, "\x03\x01\x55\xAA", 4);
     memcpy(payload + 16, "\x01\x77\x00\x00", 4);
     memcpy(payload + 24, "\x04\x0A\x00\x00", 4);
-    memcpy(before, payload, sizeof payload);
-    const vbus_header block = header(0x10, 0x0015, 0x7E21, 0x0100);
-    const size_t n = sizeof payload;
+}
 
-    CHECK(count_is(vbus_section_count(block, payload, n), 0, 3));
-    CHECK(part_is(vbus_section(block, payload, n, 0), 0, 0, 16));
-    CHECK(part_is(vbus_section(block, payload, n, 1), 0, 16, 8));
-    CHECK(part_is(vbus_section(block, payload, n, 2), 0, 24, 20));
-    CHECK(count_is(vbus_element_count(block, payload, n, 0), 0, 6));
-    CHECK(count_is(vbus_element_count(block, payload, n, 2), 0, 2));
-    CHECK(part_is(vbus_element(block, payload, n, 0, 5), 0, 14, 2));
-    CHECK(part_is(vbus_element(block, payload, n, 2, 1), 0, 36, 8));
+static vbus_header block_header(void) { return header(VBUS_PACKET, 0x0015, 0x7E21, 0x0100); }
 
-    CHECK(count_is(vbus_section_count(header(0x20, 0x0015, 0x7E21, 0x0100), payload, n), 8, 0));
-    CHECK(part_is(vbus_section(header(0x10, 0x0016, 0x7E21, 0x0100), payload, n, 0), 8, 0, 0));
-    CHECK(count_is(vbus_element_count(header(0x10, 0x0015, 0x7E21, 0x0101), payload, n, 0), 8, 0));
-    CHECK(part_is(vbus_element(block, payload, n - 1, 0, 0), 8, 0, 0));
-    CHECK(count_is(vbus_section_count(block, payload, n - 4), 9, 0));
-    CHECK(part_is(vbus_section(block, payload, n - 4, 0), 9, 0, 0));
-    CHECK(count_is(vbus_element_count(block, payload, n - 4, 0), 9, 0));
-    CHECK(part_is(vbus_element(block, payload, n - 4, 0, 0), 9, 0, 0));
-    CHECK(part_is(vbus_section(block, payload, n, 3), 10, 0, 0));
-    CHECK(count_is(vbus_element_count(block, payload, n, 3), 10, 0));
-    CHECK(part_is(vbus_element(block, payload, n, 3, 0), 10, 0, 0));
-    CHECK(part_is(vbus_element(block, payload, n, 0, 6), 10, 0, 0));
-    CHECK(count_is(vbus_element_count(block, payload, n, 1), 11, 0));
-    CHECK(part_is(vbus_element(block, payload, n, 1, 9), 11, 0, 0));
-    CHECK(memcmp(payload, before, n) == 0);
+static void blocks(void) {
+    uint8_t payload[BLOCKS], before[BLOCKS];
+    block_payload(payload);
+    block_payload(before);
+    const vbus_header block = block_header();
+    CHECK(count_is(vbus_section_count(block, payload, BLOCKS), 0, 3));
+    CHECK(part_is(vbus_section(block, payload, BLOCKS, 0), 0, 0, 16));
+    CHECK(part_is(vbus_section(block, payload, BLOCKS, 1), 0, 16, 8));
+    CHECK(part_is(vbus_section(block, payload, BLOCKS, 2), 0, 24, 20));
+    CHECK(count_is(vbus_element_count(block, payload, BLOCKS, 0), 0, 6));
+    CHECK(count_is(vbus_element_count(block, payload, BLOCKS, 2), 0, 2));
+    CHECK(part_is(vbus_element(block, payload, BLOCKS, 2, 1), 0, 36, 8));
+    const vbus_part last = vbus_element(block, payload, BLOCKS, 0, 5);
+    CHECK(part_is(last, 0, 14, 2));
+    /* painted: 14 * 37 + 11 = 529, 15 * 37 + 11 = 566, each modulo 256 */
+    CHECK(vbus_temperature(payload + last.start) == 0x3611);
+    CHECK(memcmp(payload, before, BLOCKS) == 0);
+}
+
+static void refused_blocks(void) {
+    uint8_t payload[BLOCKS], before[BLOCKS];
+    block_payload(payload);
+    block_payload(before);
+    const vbus_header block = block_header();
+    const vbus_header no_packet = header(VBUS_DATAGRAM, 0x0015, 0x7E21, 0x0100);
+    const vbus_header elsewhere = header(VBUS_PACKET, 0x0016, 0x7E21, 0x0100);
+    const vbus_header other_command = header(VBUS_PACKET, 0x0015, 0x7E21, 0x0101);
+    CHECK(count_is(vbus_section_count(no_packet, payload, BLOCKS), VBUS_NOT_BLOCK_PACKET, 0));
+    CHECK(part_is(vbus_section(elsewhere, payload, BLOCKS, 0), VBUS_NOT_BLOCK_PACKET, 0, 0));
+    CHECK(count_is(vbus_element_count(other_command, payload, BLOCKS, 0), VBUS_NOT_BLOCK_PACKET, 0));
+    CHECK(part_is(vbus_element(block, payload, BLOCKS - 1, 0, 0), VBUS_NOT_BLOCK_PACKET, 0, 0));
+    CHECK(count_is(vbus_section_count(block, payload, BLOCKS - 4), VBUS_SECTION_PAST_END, 0));
+    CHECK(part_is(vbus_section(block, payload, BLOCKS - 4, 0), VBUS_SECTION_PAST_END, 0, 0));
+    CHECK(count_is(vbus_element_count(block, payload, BLOCKS - 4, 0), VBUS_SECTION_PAST_END, 0));
+    CHECK(part_is(vbus_element(block, payload, BLOCKS - 4, 0, 0), VBUS_SECTION_PAST_END, 0, 0));
+    CHECK(part_is(vbus_section(block, payload, BLOCKS, 3), VBUS_NO_SUCH_PART, 0, 0));
+    CHECK(count_is(vbus_element_count(block, payload, BLOCKS, 3), VBUS_NO_SUCH_PART, 0));
+    CHECK(part_is(vbus_element(block, payload, BLOCKS, 3, 0), VBUS_NO_SUCH_PART, 0, 0));
+    CHECK(part_is(vbus_element(block, payload, BLOCKS, 0, 6), VBUS_NO_SUCH_PART, 0, 0));
+    CHECK(count_is(vbus_element_count(block, payload, BLOCKS, 1), VBUS_UNKNOWN_SECTION_TYPE, 0));
+    CHECK(part_is(vbus_element(block, payload, BLOCKS, 1, 9), VBUS_UNKNOWN_SECTION_TYPE, 0, 0));
+    CHECK(memcmp(payload, before, BLOCKS) == 0);
 }
 
 /* NULL is never read or written where its count is 0: a read would end the program. */
 static void null_with_zero(void) {
-    const vbus_header block = header(0x10, 0x0015, 0x7E21, 0x0100);
+    const vbus_header block = block_header();
     uint8_t out[16];
     CHECK(vbus_checksum(NULL, 0) == 0x7F);
-    CHECK(validation_is(vbus_validate(NULL, 0), 7, 0));
-    CHECK(found_is(vbus_next(NULL, 0, 0, NULL, 0), 0, 0, 0, 0, nothing, 0));
-    CHECK(found_is(vbus_next(NULL, 0, 1, NULL, 0), 6, 0, 0, 0, nothing, 0));
-    CHECK(found_is(vbus_next(clearance, 8, 0, NULL, 0), 0, 1, 0, 8, header(0x30, 0x2010, 0x7731, 0x01), 0));
-    CHECK(found_is(vbus_next(datagram, 16, 0, NULL, 0), 5, 0, 0, 0, nothing, 0));
-    CHECK(found_is(vbus_next(telegram, 17, 0, NULL, 0), 5, 0, 0, 0, nothing, 0));
+    CHECK(validation_is(vbus_validate(NULL, 0), VBUS_VERDICT_ENDED, 0));
+    CHECK(nothing_found(vbus_next(NULL, 0, 0, NULL, 0), 0));
+    CHECK(nothing_found(vbus_next(NULL, 0, 1, NULL, 0), VBUS_START_PAST_END));
+    CHECK(found_is(vbus_next(clearance, 8, 0, NULL, 0), 0, 1, 0, 8, clearance_header(), 0));
+    CHECK(nothing_found(vbus_next(datagram, 16, 0, NULL, 0), VBUS_OUTPUT_TOO_SHORT));
+    CHECK(nothing_found(vbus_next(telegram, 17, 0, NULL, 0), VBUS_OUTPUT_TOO_SHORT));
     CHECK(written_is(vbus_encode(block, NULL, 0, out, 16), 0, 10));
     CHECK(memcmp(out, "\xAA\x15\x00\x21\x7E\x10\x00\x01\x00\x3A", 10) == 0);
-    CHECK(written_is(vbus_encode(header(0x30, 0x2010, 0x7731, 0x01), NULL, 0, out, 16), 0, 8));
-    CHECK(written_is(vbus_encode(header(0x20, 0x2010, 0x7731, 0x01), NULL, 0, out, 16), 4, 0));
-    CHECK(written_is(vbus_encode(block, NULL, 0, NULL, 0), 5, 0));
+    CHECK(written_is(vbus_encode(clearance_header(), NULL, 0, out, 16), 0, 8));
+    CHECK(written_is(vbus_encode(datagram_header(), NULL, 0, out, 16), VBUS_WRONG_LENGTH, 0));
+    CHECK(written_is(vbus_encode(block, NULL, 0, NULL, 0), VBUS_OUTPUT_TOO_SHORT, 0));
     CHECK(written_is(vbus_normalize(NULL, 0, NULL, 0), 0, 0));
     CHECK(written_is(vbus_normalize(NULL, 0, out, 16), 0, 0));
     CHECK(written_is(vbus_normalize(clearance + 1, 7, NULL, 0), 0, 0));
-    CHECK(written_is(vbus_normalize(clearance, 8, NULL, 0), 5, 0));
+    CHECK(written_is(vbus_normalize(clearance, 8, NULL, 0), VBUS_OUTPUT_TOO_SHORT, 0));
     CHECK(count_is(vbus_section_count(block, NULL, 0), 0, 0));
-    CHECK(part_is(vbus_section(block, NULL, 0, 0), 10, 0, 0));
-    CHECK(count_is(vbus_element_count(block, NULL, 0, 0), 10, 0));
-    CHECK(part_is(vbus_element(block, NULL, 0, 0, 0), 10, 0, 0));
-    CHECK(count_is(vbus_section_count(nothing, NULL, 0), 8, 0));
+    CHECK(part_is(vbus_section(block, NULL, 0, 0), VBUS_NO_SUCH_PART, 0, 0));
+    CHECK(count_is(vbus_element_count(block, NULL, 0, 0), VBUS_NO_SUCH_PART, 0));
+    CHECK(part_is(vbus_element(block, NULL, 0, 0, 0), VBUS_NO_SUCH_PART, 0, 0));
+    CHECK(count_is(vbus_section_count(clearance_header(), NULL, 0), VBUS_NOT_BLOCK_PACKET, 0));
 }
 
 int main(void) {
+    names();
     layouts();
     checksum_and_septets();
-    reading();
+    verdicts();
+    finding();
+    normalizing();
     writing();
+    refused_writing();
+    signed_numbers();
     blocks();
+    refused_blocks();
     null_with_zero();
     printf("%u passed, %u failed\n", passed, failed);
     return failed == 0 ? 0 : 1;
