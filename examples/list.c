@@ -5,7 +5,7 @@
  *   gcc -std=c99 -Iinclude examples/list.c target/staticlib/libvbus.a -o list-c
  *   ./list-c FILE, or ./list-c < FILE
  *
- * Exit status: 0 listed; 1 the recording couldn't be read or the listing couldn't be written; 2 wrong use.
+ * Exit status: 0 listed; 1 the recording couldn't be read whole or the listing couldn't be written; 2 wrong use.
  */
 #define _POSIX_C_SOURCE 200112L /* isatty */
 #include <errno.h>
@@ -102,8 +102,9 @@ int main(int argc, char **argv) {
         return 2;
     }
     buffer recording = {NULL, 0, 0};
-    int status = read_recording(argc == 2 ? argv[1] : NULL, &recording);
-    if (status == 0) status = list(recording.bytes, recording.size);
+    int read = read_recording(argc == 2 ? argv[1] : NULL, &recording);
+    /* what came before a read that failed isn't lost */
+    int listed = list(recording.bytes, recording.size);
     free(recording.bytes);
-    return status;
+    return read != 0 ? read : listed;
 }
