@@ -2,10 +2,11 @@
  * Lists the records of a VBus recording, one a line: kind letter, destination, source, version, command, payload, in
  * upper-case hex. A recording is raw bytes off the bus, of any size; damaged streams in it are passed over.
  *
- *   gcc -std=c99 -Iinclude examples/list.c target/staticlib/libvbus.a -o list-c
- *   ./list-c FILE, or ./list-c < FILE
+ *   gcc -std=c99 -Iinclude examples/list.c target/staticlib/libvbus.a -o target/list-c
+ *   target/list-c FILE, or target/list-c < FILE
  *
  * Exit status: 0 listed; 1 the recording couldn't be read whole or the listing couldn't be written; 2 wrong use.
+ * Where whoever reads the listing has gone, the system's signal ends it, as it does other programs.
  */
 #define _POSIX_C_SOURCE 200112L /* isatty */
 #include <errno.h>

@@ -5,14 +5,14 @@
 //! recording as standard input.
 //!
 //! Exit status: 0 listed; 1 the recording couldn't be read whole, or the listing couldn't be written;
-//! 2 wrong use.
+//! 2 wrong use; 141 whoever read the listing has gone.
 
 use std::ffi::OsString;
 use std::fs::File;
 use std::io::{self, BufWriter, ErrorKind, IsTerminal, Read, Write};
 use std::path::PathBuf;
 use std::process::ExitCode;
-use std::{env, fmt};
+use std::{env, fmt, process};
 
 const USAGE: &str = "\
 usage: list FILE, or list < FILE
@@ -86,16 +86,15 @@ fn list(recording: &[u8]) -> Result<(), String> {
 
 /// Lets `write` write to standard output.
 ///
-/// Rust ignores the signal of a closed pipe, so that writing fails. Whoever closed it, such as
-/// `head`, has what it wanted: nothing is said, but the exit status is 1.
-///
 /// A standard input or output that was closed before the start can't be told: Rust opens /dev/null
 /// in its place before `main`. So an empty recording is listed, or the listing goes nowhere.
 fn write_out(write: impl FnOnce(&mut dyn Write) -> io::Result<()>) -> Result<(), String> {
     let mut out = BufWriter::new(io::stdout().lock());
     let written = write(&mut out).and_then(|()| out.flush());
     written.map_err(|error| match error.kind() {
-        ErrorKind::BrokenPipe => String::new(),
+        // Whoever closed the pipe, such as `head`, has what it wanted. Rust ignores the signal that
+        // would end the program; this is the status that a shell sees then.
+        ErrorKind::BrokenPipe => process::exit(141),
         _ => failure("standard output", &error),
     })
 }

@@ -43,7 +43,7 @@ extern "C" {
 #endif
 
 /* The versions of streams. This enum and the others only name numbers: the fields that hold these have fixed widths. */
-enum vbus_version {
+enum vbus_stream_version {
     VBUS_PACKET = 0x10,
     VBUS_DATAGRAM = 0x20,
     VBUS_TELEGRAM = 0x30,
@@ -69,7 +69,7 @@ enum vbus_refusal {
  * parameter, 4 of value); 7 bytes a frame in a telegram, whose command says in bits 5 and 6 how many frames there
  * are (0 to 3). A telegram's command is one byte, 0 to 0x7F. */
 typedef struct {
-    uint8_t version; /* enum vbus_version */
+    uint8_t version; /* enum vbus_stream_version */
     uint16_t destination, source, command;
 } vbus_header;
 

@@ -40,19 +40,19 @@ WORDS = (
 
 # The lines of a log. An error says what is refused, and why: REFUSED has how it begins where a fact is refused, since an error may also say
 # that a proof's text is unfit for the program, which tells nothing of a fact. A function with no proof of its own has no error but a line.
-ERROR = re.compile(r"\S*/must-fail/(?P<edit>[^/]+/[^/]+)/(?P<path>[^:]+):\d+:\d+: error: `(?P<fact>[^`]+)`: (?P<why>.*)")
+ERROR = re.compile(r"[^`]*/must-fail/(?P<edit>[^/]+/[^/]+)/(?P<path>[^:]+):\d+:\d+: error: `(?P<fact>[^`]+)`: (?P<why>.*)")
 REFUSED = re.compile(
     r"as printed, the two types .*|computed as far as they go, the two types .*|expected type `.*"
     r"|`omega`: the (goal|part `[^`]+` of the goal) does not follow .*|`search`: no proof of .*|`rw`: no (occurrence|part) of .*"
     r"|give a proof of that as the last argument, `(simp|rw) L t` .*"
 )
 NO_PROOF = re.compile(
-    r"fn (?P<crate>\w+)::(?P<function>[\w:]+): no proof: expected `[^`]+` in \S+; `search` does not close `(?P<fact>[^`]+)`(, `[^`]+`)*"
+    r"fn (?P<crate>\w+)::(?P<function>[\w:]+): no proof: expected `[^`]+` in .+; `search` does not close `(?P<fact>[^`]+)`(, `[^`]+`)*"
 )
 # what tells of no fact, or only that another one was refused
 PASSED_OVER = re.compile(
-    r" .*|(fn|struct|enum) \S+: proved|note: .*|\S+:\d+:\d+: note: .*"
-    r"|\S+:\d+:\d+: error: `[^`]+-spec`: `[^`]+` was not admitted .*|fn \S+: not proved; it calls .*"
+    r" .*|(fn|struct|enum) \S+: proved|note: .*|[^`]+:\d+:\d+: note: .*"
+    r"|[^`]+:\d+:\d+: error: `[^`]+-spec`: `[^`]+` was not admitted .*|fn \S+: not proved; it calls .*"
 )
 
 INTRODUCTION = """\

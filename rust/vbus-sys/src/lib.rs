@@ -105,7 +105,7 @@ pub struct Septets {
 
 extern "C" {
     /// The checksum of a block.
-    pub fn vbus_checksum(block: *const u8, n: usize) -> u8;
+    pub fn vbus_checksum(bytes: *const u8, n: usize) -> u8;
 
     /// Takes the top bits out of a block.
     pub fn vbus_extract(bytes: *const [u8; 7], length: usize) -> Septets;
