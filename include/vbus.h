@@ -3,22 +3,24 @@
  * Link with libvbus.a (x86-64, System V calling convention).
  *
  * Memory. No heap, no globals, nothing kept between calls: every function may be called from several threads and from
- * signal handlers at once. Where bytes arrive one by one, the caller gathers them. The archive needs nothing from
- * outside. Stack: at most 256 bytes a call, but up to 6,400 in the four section functions, which call themselves once
- * a section: 48 bytes each, 127 sections at most. tests/stack in the repository measures it.
+ * signal handlers at once. What a receiver must remember stands in a struct and a buffer of the caller's. The archive
+ * needs nothing from outside. Stack: at most 256 bytes a call, but up to 6,400 in the four section functions, which
+ * call themselves once a section: 48 bytes each, 127 sections at most. tests/stack in the repository measures it.
  *
  * Pointers. This is the caller's to keep; no function can check it:
- *  - A pointer has as many bytes behind it as the count says that follows it (n, room), and bytes[7], bytes[2] and
- *    payload[6] as many as the brackets say, whatever `length` says. Nothing beyond them is read or written.
+ *  - A pointer has as many bytes behind it as the count says that follows it (n, room), and bytes[7], bytes[2],
+ *    payload[6] and memory[VBUS_MAX_STREAM] as many as the brackets say, whatever `length` says. Nothing beyond them
+ *    is read or written.
  *  - With a count above 0, or brackets, the pointer must not be NULL. With count 0 it isn't read or written, and NULL
  *    is fine.
- *  - A buffer that is written (payload of vbus_next, out) must not overlap the call's other one: a recording can't be
- *    normalized in place.
+ *  - A buffer that is written (payload of vbus_next and vbus_receive, memory, out) must not overlap another of the
+ *    call: a recording can't be normalized in place.
  *  - While a call runs, nothing else writes to its buffers, nor reads the one that it writes.
  *
  * Refusals. `number` is 0 where the function did its work, else the number of a refusal. At each function its refusals
  * stand in the order in which they are checked; the first that applies is given. After a refusal every buffer holds
- * what it held before, and every other field of the answer is 0. A function without `number` never refuses.
+ * what it held before, and every other field of the answer is 0, but a receiver, which comes back as it was. A function
+ * without `number` never refuses.
  */
 #ifndef VBUS_H
 #define VBUS_H
@@ -31,7 +33,7 @@
 
 /* The version of this library, not of a stream. */
 #define VBUS_VERSION_MAJOR 0
-#define VBUS_VERSION_MINOR 1
+#define VBUS_VERSION_MINOR 2
 #define VBUS_VERSION_PATCH 0
 
 /* The longest payload and the longest stream, both those of a packet with 127 frames. */
@@ -85,6 +87,20 @@ typedef struct {
     vbus_header header;
     size_t payload_length; /* bytes written to the payload buffer */
 } vbus_found;
+
+/* A receiver between two calls, with its memory. All zero bytes are a fresh one. */
+typedef struct {
+    size_t held; /* bytes of an unfinished stream, at the start of the memory */
+} vbus_receiver;
+
+typedef struct {
+    uint32_t number;
+    bool found;
+    size_t used, length; /* bytes of the chunk that were used, and how many the stream has */
+    vbus_header header;
+    size_t payload_length; /* bytes written to the payload buffer */
+    vbus_receiver receiver; /* to hand over with the next call */
+} vbus_received;
 
 typedef struct {
     uint32_t number;
@@ -145,6 +161,21 @@ vbus_validation vbus_validate(const uint8_t *input, size_t n);
  *   VBUS_START_PAST_END (6): start is above n (start == n is fine: there is none)
  *   VBUS_OUTPUT_TOO_SHORT (5): room is less than the payload of the stream found */
 vbus_found vbus_next(const uint8_t *input, size_t n, size_t start, uint8_t *payload, size_t room);
+
+/* Takes in bytes as they arrive, a chunk at a time, cut anyhow and possibly empty, up to the byte that completes a whole
+ * stream, and reads its record; with no such byte it takes in all of them. A stream that isn't complete yet is kept in
+ * `memory` for the next call, which gets the same memory and the answer's receiver; the caller leaves both alone.
+ * Where found, `used` counts up to the stream's last byte: hand the rest of the chunk over in the next call. The payload
+ * stands at the start of `payload`; the bytes behind it stay. Else `used` is n, `payload` stays as it was, and `found`,
+ * `length`, `header` and `payload_length` are 0. Behind the bytes held, `memory` may hold anything afterwards.
+ * A recording, fed to a fresh receiver until it is used up, gives just the records that vbus_next finds in it. Whatever
+ * receiver and memory are handed in, nothing is delivered but a whole stream that ends with the last byte used.
+ *   VBUS_OUTPUT_TOO_SHORT (5): room is less than VBUS_MAX_PAYLOAD, whatever this chunk brings; nothing is used */
+vbus_received vbus_receive(vbus_receiver receiver, uint8_t memory[VBUS_MAX_STREAM], const uint8_t *chunk, size_t n,
+                           uint8_t *payload, size_t room);
+
+/* Forgets the unfinished stream, and only that: what follows is received as by a fresh receiver. */
+vbus_receiver vbus_reset(vbus_receiver receiver);
 
 /* Writes a record's stream to the start of `out`; the bytes behind it stay. A packet needs 10 bytes and 6 a frame, a
  * datagram 16, a telegram 8 and 9 a frame. A room of VBUS_MAX_STREAM always suffices.

@@ -12,11 +12,11 @@ use Rattle.basics.specs.Choice.{choose}
 use Rattle.basics.specs.Output.{roomRefusal, answeredFor, outputFor}
 
 module _ (result : List ℕ) (room : ℕ) where
-  refusal-short : room < length result → roomRefusal result room ≡ 5
+  pub refusal-short : room < length result → roomRefusal result room ≡ 5
   unfolding roomRefusal choose
   refusal-short short = simp (lt-ltb room _ short)
 
-  refusal-none : length result ≤ room → roomRefusal result room ≡ 0
+  pub refusal-none : length result ≤ room → roomRefusal result room ≡ 0
   unfolding roomRefusal choose
   refusal-none fits = simp (le-ltb room _ fits)
 

@@ -4,4 +4,5 @@ pub mod Nexts
 pub mod Runs
 pub mod Reading
 pub mod Searching
+pub mod Decoding
 pub mod Rewriting

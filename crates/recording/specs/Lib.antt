@@ -1,4 +1,5 @@
 pub mod Recording
 pub mod Next
+pub mod Decode
 pub mod Normalize
 pub mod Stage

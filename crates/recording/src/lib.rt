@@ -3,6 +3,7 @@ ghost use mathlib.Core.Path.{_≡_};
 ghost use lib.ListN.{length, drop};
 ghost use Rattle.basics.specs.Output.{outputFor};
 ghost use Rattle.record.specs.Record.{recordOf};
+ghost use Rattle.recording.specs.Decode.{decodedOf, decodedAfter};
 ghost use Rattle.recording.specs.Next.{nextOf, payloadAfter};
 ghost use Rattle.recording.specs.Normalize.{normalizingOf, outputAfter};
 ghost use Rattle.recording.specs.Stage.{WholeAt, deliveredOf};
@@ -67,6 +68,26 @@ fn deliver(input: &[u8], span: Span, out: &mut [u8]) -> Found
         header,
         payload_length: size,
     }
+}
+
+// The record of the whole stream that `input` begins with, its payload at the start of `out`.
+// A refusal, and the answer that it begins with none, leave every byte of `out` as it was.
+pub fn decode(input: &[u8], out: &mut [u8]) -> Found
+    ensures { λ r. ⌜ r ≡ decodedOf (now (input .entry)) (length (now (out .entry))) ⌝ }
+    ensures { λ r. ⌜ now (out .exit) ≡ decodedAfter (now (input .entry)) (now (out .entry)) ⌝ }
+{
+    let validation = stream::validate(input);
+    if validation.verdict != 0 {
+        return without(0);
+    }
+    deliver(
+        input,
+        Span {
+            place: 0,
+            length: validation.offset,
+        },
+        out,
+    )
 }
 
 // The record of the first whole stream at or after `start`, its payload at the start of `out`.

@@ -1,0 +1,4 @@
+pub mod Holding
+pub mod Receive
+pub mod Feeding
+pub mod Stage
