@@ -2,9 +2,11 @@
 ghost use mathlib.Core.Path.{_≡_};
 ghost use Prim.Native.Nat.{_≤_};
 ghost use lib.ListN.{length, take};
+ghost use Rattle.basics.specs.Bytes.{over};
+ghost use Rattle.recording.specs.Decode.{beginning};
+ghost use Rattle.recording.specs.Next.{payloadOf};
+ghost use Rattle.receiver.specs.Receive.{outcomeOf, answerOf, acceptedOf, receivedOf, outputAfter, Remembered, resetOf};
 ghost use Rattle.receiver.specs.Holding.{kept};
-ghost use Rattle.receiver.specs.Receive.{answerOf, acceptedOf, payloadAfter, receivedOf, outputAfter, Remembered, resetOf};
-ghost use Rattle.receiver.specs.Stage.{Fed};
 
 mod buffer;
 mod length;
@@ -30,4 +32,64 @@ pub struct Received {
     pub header: Header,
     pub payload_length: usize,
     pub receiver: Receiver,
+}
+
+// An answer with a record or none.
+fn answer(found: Found, used: usize, receiver: Receiver) -> Received
+    ensures { λ r. ⌜ r ≡ answerOf found used receiver ⌝ }
+{
+    let header = found.header;
+    Received {
+        number: found.number,
+        found: found.found,
+        used,
+        length: found.length,
+        header,
+        payload_length: found.payload_length,
+        receiver,
+    }
+}
+
+// Takes in the bytes up to the one that completes a whole stream, or all of them, behind the bytes that the memory holds.
+fn feed(memory: &mut [u8], held: usize, chunk: &[u8], out: &mut [u8]) -> Received
+    requires { ⌜ (length (now memory) ≡ 772) × (508 ≤ length (now out)) ⌝ }
+    ensures { λ r. ⌜ r ≡ acceptedOf (outcomeOf (kept (take held (now (memory .entry)))) (now (chunk .entry))) ⌝ }
+    ensures { λ r. ⌜ now (out .exit) ≡ over (payloadOf (beginning (outcomeOf (kept (take held (now (memory .entry)))) (now (chunk .entry)) .stream))) (now (out .entry)) ⌝ }
+    ensures { λ r. ⌜ take (r .receiver .held) (now (memory .exit)) ≡ outcomeOf (kept (take held (now (memory .entry)))) (now (chunk .entry)) .held ⌝ }
+{
+    let mut state = buffer::restore(memory, held);
+    let mut used = 0;
+    while used < chunk.len() {
+        state = buffer::take_byte(memory, state, chunk[used]);
+        used += 1;
+        let count = state.held;
+        if count == state.least {
+            let found = recording::decode(&memory[0..count], out);
+            if found.found {
+                return answer(found, used, Receiver { held: 0 });
+            }
+            state = buffer::nothing();
+        }
+    }
+    answer(recording::without(0), used, Receiver { held: state.held })
+}
+
+// Takes in the bytes of a chunk up to the last one of the first stream that they complete, or all of them. The record's payload then
+// stands at the start of `out`. A refusal uses nothing and leaves the state, `memory` and `out` as they were.
+pub fn receive(receiver: Receiver, memory: &mut [u8; 772], chunk: &[u8], out: &mut [u8]) -> Received
+    ensures { λ r. ⌜ r ≡ receivedOf receiver (now (memory .entry)) (now (chunk .entry)) (length (now (out .entry))) ⌝ }
+    ensures { λ r. ⌜ now (out .exit) ≡ outputAfter receiver (now (memory .entry)) (now (chunk .entry)) (now (out .entry)) ⌝ }
+    ensures { λ r. ⌜ Remembered receiver (now (memory .entry)) (now (chunk .entry)) (length (now (out .entry))) (now (memory .exit)) ⌝ }
+{
+    if out.len() < 508 {
+        return answer(recording::without(5), 0, receiver);
+    }
+    feed(memory, receiver.held, chunk, out)
+}
+
+// Forgets the unfinished stream, and only that.
+pub fn reset(receiver: Receiver) -> Receiver
+    ensures { λ r. ⌜ r ≡ resetOf receiver ⌝ }
+{
+    Receiver { held: 0 }
 }

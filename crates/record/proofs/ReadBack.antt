@@ -4,9 +4,9 @@ use native.Mathlib.Omega.{arith}
 use mathlib.Core.Path.{_≡_, refl, sym, ap, subst, _∙_}
 use mathlib.Core.Bool.{true≢false}
 use mathlib.Core.Logic.{_↔_}
-use mathlib.Core.List.{List, _∷_, _++_, append-assoc}
-use lib.ListN.{length, getD, drop, length-append, List·getD-append, take-append-drop}
-use lib.Seq.{drop-at}
+use mathlib.Core.List.{List, [], _∷_, _++_, append-assoc, append-nil}
+use lib.ListN.{length, getD, take, drop, length-append, List·getD-append, take-append-drop}
+use lib.Seq.{drop-at, take-at, take-append-seam}
 use Rattle.basics.specs.Bytes.{AllBelow}
 use Rattle.basics.proofs.Bytes.{all-append, getD-below}
 use Rattle.checksum.specs.Checksum.{checksumOf}
@@ -202,3 +202,24 @@ pub refused-unwritable : (r : Record) (room : ℕ) → 0 < refusal r room → re
 refused-unwritable r room p q s w e =
     let writable : Writable r = subst Writable e (whole-writable s w) in
     omega (arith, refusal-unwritable r room p q, writable .carried)
+
+-- ── what stands behind a stream isn't looked at
+
+module _ (s t : List ℕ) where
+  pub whole-more : validationOf s .verdict ≡ 0 → (validationOf (s ++ t) ≡ validationOf s) × (recordOf (s ++ t) ≡ recordOf s)
+  whole-more whole =
+      let (r, u, w, read, e) = whole-exactly s .0 whole in
+      let more : s ++ t ≡ streamOf r ++ (u ++ t) = ap (λ (l : List ℕ). l ++ t) e ∙ append-assoc (streamOf r) u t in (
+        ap validationOf more ∙ read-back r w (u ++ t) .0 ∙ sym (ap validationOf e ∙ read-back r w u .0),
+        ap recordOf more ∙ read-back r w (u ++ t) .1 ∙ sym read,
+      )
+
+  -- all of it is its own bytes
+  pub whole-alone : validationOf (s ++ t) .verdict ≡ 0 → validationOf (s ++ t) .offset ≡ length s → validationOf s .verdict ≡ 0
+  whole-alone whole sized =
+      let (r, u, w, read, e) = whole-exactly (s ++ t) .0 whole in
+      let told = ap validationOf e ∙ read-back r w u .0 in
+      let long : length (streamOf r) ≡ length s = sym (ap (λ (v : Validation). v .offset) told) ∙ sized in
+      let same : s ≡ streamOf r ++ [] =
+      sym (take-append-seam s t) ∙ ap (take (length s)) e ∙ take-at (streamOf r) u (length s) long ∙ sym (append-nil (streamOf r)) in
+      ap (λ (l : List ℕ). validationOf l .verdict) same ∙ ap (λ (v : Validation). v .verdict) (read-back r w [] .0)

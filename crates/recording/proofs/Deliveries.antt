@@ -63,15 +63,15 @@ module _ (q byte : ℕ) (rest : List ℕ) where
   unfolding deliveriesFrom choose
   here w = rw (eq-eqb _ 0 w)
 
-  on : (Whole (byte ∷ rest) → ⊥) → deliveriesFrom q (byte ∷ rest) ≡ deliveriesFrom (suc q) rest
+  pub passed : (Whole (byte ∷ rest) → ⊥) → deliveriesFrom q (byte ∷ rest) ≡ deliveriesFrom (suc q) rest
   unfolding deliveriesFrom choose
-  on w = rw (ne-eqb _ 0 w)
+  passed faulty = rw (ne-eqb _ 0 faulty)
 
 -- no stream begins at a byte that is not the sync byte
 pub skip : (q : ℕ) (l t : List ℕ) → AllBelow 128 l → deliveriesFrom q (l ++ t) ≡ deliveriesFrom (q + length l) t
 skip q [] t low = rw (add-zero q)
 skip q (x ∷ l) t low =
-    on q x (l ++ t) (λ w. omega (arith, whole-sync (x ∷ (l ++ t)) w)) ∙ skip (suc q) l t (low .1) ∙ ap (λ (n : ℕ). deliveriesFrom n t) (omega arith)
+    passed q x (l ++ t) (λ w. omega (arith, whole-sync (x ∷ (l ++ t)) w)) ∙ skip (suc q) l t (low .1) ∙ ap (λ (n : ℕ). deliveriesFrom n t) (omega arith)
 
 -- a whole stream is delivered, and then what follows it
 pub first-whole : (q : ℕ) (s : List ℕ) → Whole s → deliveriesFrom q s ≡ deliveryAt q s ∷ deliveriesFrom (q + validationOf s .offset) (drop (validationOf s .offset) s)
@@ -100,7 +100,7 @@ module _ (s : List ℕ) (start : ℕ) where
   after-on : start < length s → (Whole (drop start s) → ⊥) → deliveriesAfter s start ≡ deliveriesAfter s (start + 1)
   after-on inside w =
       let begins = drop-cons s start 0 inside in
-      rw (begins, add-one) (on start (getD s start 0) (drop (suc start) s) (λ x. w (rw begins x)))
+      rw (begins, add-one) (passed start (getD s start 0) (drop (suc start) s) (λ x. w (rw begins x)))
 
   pub after-here : Whole (drop start s) → deliveriesAfter s start ≡ deliveryAt start (drop start s) ∷ deliveriesAfter s (start + validationOf (drop start s) .offset)
   after-here w = first-whole start (drop start s) w ∙ rw drop-drop
@@ -168,7 +168,7 @@ contents-moved p q [] = refl
 contents-moved p q (byte ∷ rest) =
     dite (ℕ-discrete (validationOf (byte ∷ rest) .verdict) 0)
     (λ w. rw (here p byte rest w, here q byte rest w) (ap {B = List Record} (λ l. recordOf (byte ∷ rest) ∷ l) (contents-moved (suc p) (suc q) rest)))
-    (λ no. rw (on p byte rest no, on q byte rest no) (contents-moved (suc p) (suc q) rest))
+    (λ no. rw (passed p byte rest no, passed q byte rest no) (contents-moved (suc p) (suc q) rest))
 
 -- the deliveries from a place on are the records of the bytes from there on
 pub contents-after : (s : List ℕ) (start : ℕ) → contentsOf (deliveriesAfter s start) ≡ records (drop start s)

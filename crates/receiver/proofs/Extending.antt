@@ -1,0 +1,70 @@
+-- Laws of the held bytes: with one more, and what is kept of them.
+use Prim.Native.Nat.{ℕ, _+_, _<_, _≤_}
+use native.Mathlib.Omega.{arith}
+use native.Mathlib.Decide.{decLt, ℕ-discrete}
+use mathlib.Core.Path.{_≡_, refl, sym, ap, _∙_}
+use mathlib.Core.Bool.{Bool, true, false, _&&_, and-false}
+use mathlib.Core.Logic.{dite}
+use mathlib.Core.List.{List, [], _∷_, _++_, append-nil}
+use borrow.Author.Tests.{eq-eqb, ne-eqb, lt-ltb, le-ltb, le-leb, lt-leb}
+use lib.Dec.{ltb, leb}
+use lib.ListN.{length}
+use Rattle.basics.specs.Choice.{choose}
+use Rattle.basics.proofs.Choice.{choose-by}
+use Rattle.stream.specs.Layout.{streamLength}
+use Rattle.stream.proofs.Lengths.{length-early}
+use Rattle.receiver.specs.Holding.{extended, isUnfinished, kept}
+
+-- ── the held bytes with one more
+
+module _ (h : List ℕ) (byte : ℕ) where
+  pub extended-sync : byte ≡ 0xAA → extended h byte ≡ byte ∷ []
+  unfolding extended choose
+  extended-sync e = rw (eq-eqb byte 0xAA e)
+
+  pub extended-high : (byte ≡ 0xAA → ⊥) → 0x80 ≤ byte → extended h byte ≡ []
+  unfolding extended choose
+  extended-high other high = rw (ne-eqb byte 0xAA other, le-leb 0x80 byte high)
+
+  pub extended-none : byte < 0x80 → length h ≡ 0 → extended h byte ≡ []
+  unfolding extended choose
+  extended-none low empty = rw (ne-eqb byte 0xAA (λ e. omega arith), lt-leb 0x80 byte low, eq-eqb (length h) 0 empty)
+
+  pub extended-low : byte < 0x80 → 0 < length h → extended h byte ≡ h ++ (byte ∷ [])
+  unfolding extended choose
+  extended-low low there = rw (ne-eqb byte 0xAA (λ e. omega arith), lt-leb 0x80 byte low, ne-eqb (length h) 0 (λ e. omega arith))
+
+-- the three things that a byte can do
+pub extended-by : (P : List ℕ → Type 0) (h : List ℕ) (byte : ℕ)
+    → (byte ≡ 0xAA → P (byte ∷ [])) → P [] → (byte < 0x80 → 0 < length h → P (h ++ (byte ∷ []))) → P (extended h byte)
+extended-by P h byte begins ends adds =
+    dite (ℕ-discrete byte 0xAA) (λ e. rw (extended-sync h byte e) (begins e))
+    (λ other. dite (decLt byte 0x80)
+    (λ low. dite (ℕ-discrete (length h) 0)
+    (λ e. rw (extended-none h byte low e) ends)
+    (λ there. rw (extended-low h byte low (omega arith)) (adds low (omega arith))))
+    (λ high. rw (extended-high h byte other (omega arith)) ends))
+
+-- ── what is kept
+
+module _ (s : List ℕ) where
+  pub kept-short : length s < streamLength s → streamLength s ≤ 772 → kept s ≡ s
+  unfolding kept choose
+  kept-short short most = rw (lt-ltb _ _ short, le-leb _ _ most)
+
+  pub kept-long : streamLength s ≤ length s → kept s ≡ []
+  unfolding kept choose
+  kept-long long = rw (le-ltb _ _ long)
+
+  pub kept-most : 772 < streamLength s → kept s ≡ []
+  unfolding kept choose
+  kept-most far = rw (lt-leb _ _ far, and-false (ltb (length s) (streamLength s)))
+
+-- so few bytes don't tell more than that there are six at least
+pub kept-early : (s : List ℕ) → length s < 6 → kept s ≡ s
+kept-early s early = kept-short s (omega (arith, length-early s early)) (omega (arith, length-early s early))
+
+-- all of it, or nothing
+pub kept-by : (P : List ℕ → Type 0) (s : List ℕ) → P s → P [] → P (kept s)
+unfolding kept
+kept-by P s whole nothing = choose-by P (isUnfinished s) (λ e. whole) (λ e. nothing)

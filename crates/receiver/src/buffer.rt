@@ -1,0 +1,78 @@
+// The unfinished stream in the lent memory.
+ghost use mathlib.Core.Path.{_≡_};
+ghost use Prim.Native.Nat.{_≤_, _<_};
+ghost use mathlib.Core.List.{[]};
+ghost use lib.ListN.{length, take};
+ghost use Rattle.receiver.specs.Stage.{Holding, Restored, TookByte};
+use crate::length::announced;
+
+// How many bytes are held, and how many their stream has at least. The announced length is looked up again only when so many are held.
+pub struct Unfinished {
+    pub held: usize,
+    pub least: usize,
+}
+
+// Nothing is held; no stream has fewer than six bytes.
+pub fn nothing() -> Unfinished
+    ensures { λ r. ⌜ r ≡ record { held = 0; least = 6 } ⌝ }
+{
+    Unfinished { held: 0, least: 6 }
+}
+
+// What a state with so many bytes in the memory holds.
+pub fn restore(memory: &[u8], held: usize) -> Unfinished
+    requires { ⌜ length (now memory) ≡ 772 ⌝ }
+    ensures { λ r. ⌜ Restored (now (memory .entry)) held r ⌝ }
+{
+    if held >= 772 {
+        return nothing();
+    }
+    let least = announced(&memory[0..held]);
+    if least <= held {
+        return nothing();
+    }
+    if least > 772 {
+        return nothing();
+    }
+    Unfinished { held, least }
+}
+
+// A byte of 0x80 or more: 0xAA begins a stream, any other ends the one that is held.
+fn begin(memory: &mut [u8], byte: u8) -> Unfinished
+    requires { ⌜ (length (now memory) ≡ 772) × (0x80 ≤ byte) ⌝ }
+    ensures { λ r. ⌜ TookByte [] byte (now (memory .exit)) r ⌝ }
+{
+    if byte == 0xAA {
+        memory[0] = byte;
+        return Unfinished { held: 1, least: 6 };
+    }
+    nothing()
+}
+
+// A byte below 0x80 behind those held.
+fn add(memory: &mut [u8], u: Unfinished, byte: u8) -> Unfinished
+    requires { ⌜ (length (now memory) ≡ 772) × (Holding (now memory) u × ((0 < u .held) × (byte < 0x80))) ⌝ }
+    ensures { λ r. ⌜ TookByte (take (u .held) (now (memory .entry))) byte (now (memory .exit)) r ⌝ }
+{
+    let held = u.held;
+    memory[held] = byte;
+    let count = held + 1;
+    if count < u.least {
+        return Unfinished { held: count, least: u.least };
+    }
+    Unfinished { held: count, least: announced(&memory[0..count]) }
+}
+
+// Takes in one byte.
+pub fn take_byte(memory: &mut [u8], u: Unfinished, byte: u8) -> Unfinished
+    requires { ⌜ (length (now memory) ≡ 772) × Holding (now memory) u ⌝ }
+    ensures { λ r. ⌜ TookByte (take (u .held) (now (memory .entry))) byte (now (memory .exit)) r ⌝ }
+{
+    if byte >= 0x80 {
+        return begin(memory, byte);
+    }
+    if u.held == 0 {
+        return u;
+    }
+    add(memory, u, byte)
+}
