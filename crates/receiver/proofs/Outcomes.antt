@@ -2,20 +2,23 @@
 use Prim.Native.Nat.{ℕ, suc, _+_, _-_, _<_, _≤_}
 use native.Mathlib.Omega.{arith}
 use native.Mathlib.Nat.{add-zero}
-use native.Mathlib.Decide.{ℕ-discrete}
+use native.Mathlib.Decide.{decLt, ℕ-discrete}
 use mathlib.Core.Path.{_≡_, refl, sym, ap, ap₂, subst, _∙_}
 use mathlib.Core.Logic.{dite}
 use mathlib.Core.List.{List, [], _∷_, _++_, append-assoc, append-nil}
 use borrow.Author.Tests.{eq-eqb, ne-eqb}
-use lib.ListN.{length, take, drop}
+use lib.ListN.{length, take, drop, length-append}
 use Rattle.basics.specs.Choice.{choose}
+use Rattle.stream.specs.Layout.{streamLength}
 use Rattle.stream.specs.Validation.{validationOf, isWhole}
+use Rattle.stream.proofs.Lengths.{length-early, length-grows}
+use Rattle.stream.proofs.Reached.{whole-clean}
 use Rattle.recording.specs.Recording.{Delivery, deliveryAt, deliveriesFrom}
-use Rattle.recording.proofs.Deliveries.{Whole, whole-long}
+use Rattle.recording.proofs.Deliveries.{Whole}
 use Rattle.receiver.specs.Holding.{extended, kept}
 use Rattle.receiver.specs.Receive.{Outcome, oneMore, outcomeOf}
-use Rattle.receiver.proofs.Extending.{extended-by, kept-by}
-use Rattle.receiver.proofs.Steps.{Held, none, Onward, onward, Completes, completes}
+use Rattle.receiver.proofs.Extending.{extended-by, kept-by, kept-long}
+use Rattle.receiver.proofs.Steps.{Held, none, Onward, onward, few-whole, Completes, completes}
 
 -- ── one byte
 
@@ -51,12 +54,12 @@ pub delivered-whole : (end : ℕ) (s : List ℕ) → Whole s → deliveredAt end
 unfolding deliveredAt choose
 delivered-whole end s w = rw (eq-eqb _ 0 w)
 
-pub nothing-whole : Whole [] → ⊥
-nothing-whole w = omega (arith, whole-long [] w)
-
-pub delivered-nothing : (end : ℕ) → deliveredAt end [] ≡ []
+pub delivered-none : (end : ℕ) (s : List ℕ) → (Whole s → ⊥) → deliveredAt end s ≡ []
 unfolding deliveredAt choose
-delivered-nothing end = rw (ne-eqb _ 0 nothing-whole)
+delivered-none end s faulty = rw (ne-eqb _ 0 faulty)
+
+nothing-whole : Whole [] → ⊥
+nothing-whole w = few-whole [] (omega arith) w
 
 -- o is what came of the chunk behind the bytes h, which stand from p on: what was to be delivered from there on is what o delivers and
 -- what is to be delivered from then on, whatever follows
@@ -75,7 +78,7 @@ follows h chunk = outcome-ind (λ (h chunk : List ℕ) (o : Outcome). Held h →
           place = p;
           there = omega arith;
           held = held;
-          same = λ t. ap (λ (ds : List Delivery). ds ++ deliveriesFrom p (h ++ t)) (sym (delivered-nothing (p + length h + 0)));
+          same = λ t. ap (λ (ds : List Delivery). ds ++ deliveriesFrom p (h ++ t)) (sym (delivered-none (p + length h + 0) [] nothing-whole));
         }
 
     done : (h : List ℕ) (byte : ℕ) (rest : List ℕ) → Whole (extended h byte) → Held h → (p : ℕ) → Follows p h (byte ∷ rest) (record { stream = extended h byte; held = []; used = 1 })
@@ -102,3 +105,93 @@ follows h chunk = outcome-ind (λ (h chunk : List ℕ) (o : Outcome). Held h →
           held = then .held;
           same = λ t. step .same (rest ++ t) ∙ then .same t ∙ ap (λ (n : ℕ). deliveredAt n (o .stream) ++ deliveriesFrom (then .place) (o .held ++ (drop (o .used) rest ++ t))) end;
         }
+
+-- ── how many bytes are used, and which
+
+-- with no record all bytes are used; one at least, if there is one
+pub record Uses (chunk : List ℕ) (o : Outcome) : Type 0 where
+  pub within : o .used ≤ length chunk
+  pub some : 0 < length chunk → 0 < o .used
+  pub all : (Whole (o .stream) → ⊥) → o .used ≡ length chunk
+
+pub uses : (h chunk : List ℕ) → Uses chunk (outcomeOf h chunk)
+uses h chunk = outcome-ind (λ (h chunk : List ℕ) (o : Outcome). Uses chunk o)
+    (λ h. record { within = omega arith; some = λ more. more; all = λ none. refl })
+    (λ h byte rest w. record { within = omega arith; some = λ more. omega arith; all = λ none. absurd (none w) })
+    (λ h byte rest faulty o then. record { within = omega (arith, then .within); some = λ more. omega arith; all = λ none. ap suc (then .all none) })
+    h chunk
+
+-- what is delivered, or held, is the last of the bytes that were held before and used since
+pub record Last (all s : List ℕ) : Type 0 where
+  pub before : List ℕ
+  pub is : all ≡ before ++ s
+
+extended-last : (h : List ℕ) (byte : ℕ) → Last (h ++ (byte ∷ [])) (extended h byte)
+extended-last h byte =
+    extended-by (Last (h ++ (byte ∷ []))) h byte
+    (λ e. record { before = h; is = refl })
+    (record { before = h ++ (byte ∷ []); is = sym (append-nil (h ++ (byte ∷ []))) })
+    (λ low there. record { before = []; is = refl })
+
+kept-last : (s : List ℕ) → Last s (kept s)
+kept-last s = kept-by (Last s) s (record { before = []; is = refl }) (record { before = s; is = sym (append-nil s) })
+
+pub last-used : (h chunk : List ℕ) → Last (h ++ take (outcomeOf h chunk .used) chunk) (outcomeOf h chunk .stream ++ outcomeOf h chunk .held)
+last-used h chunk = outcome-ind (λ (h chunk : List ℕ) (o : Outcome). Last (h ++ take (o .used) chunk) (o .stream ++ o .held)) base done more h chunk
+  where
+    base : (h : List ℕ) → Last (h ++ []) h
+    base h = record { before = []; is = append-nil h }
+
+    done : (h : List ℕ) (byte : ℕ) (rest : List ℕ) → Whole (extended h byte) → Last (h ++ (byte ∷ [])) (extended h byte ++ [])
+    done h byte rest w = rw (append-nil (extended h byte)) (extended-last h byte)
+
+    more : (h : List ℕ) (byte : ℕ) (rest : List ℕ) → (Whole (extended h byte) → ⊥) → (o : Outcome)
+        → Last (kept (extended h byte) ++ take (o .used) rest) (o .stream ++ o .held) → Last (h ++ (byte ∷ take (o .used) rest)) (o .stream ++ o .held)
+    more h byte rest faulty o then =
+        let taken = take (o .used) rest in
+        let first = extended-last h byte in
+        let second = kept-last (extended h byte) in
+        let before = first .before ++ second .before in
+        let moved : h ++ (byte ∷ taken) ≡ before ++ (kept (extended h byte) ++ taken) =
+        sym (append-assoc h (byte ∷ []) taken)
+        ∙ ap (λ (l : List ℕ). l ++ taken) (first .is ∙ ap (λ (l : List ℕ). first .before ++ l) (second .is) ∙ sym (append-assoc (first .before) (second .before) (kept (extended h byte))))
+        ∙ append-assoc before (kept (extended h byte)) taken in
+        record {
+          before = before ++ then .before;
+          is = moved ∙ ap (λ (l : List ℕ). before ++ l) (then .is) ∙ sym (append-assoc before (then .before) (o .stream ++ o .held));
+        }
+
+-- ── what is delivered is a whole stream and no more, whatever is held
+
+-- a stream that is shorter than it announces
+abbrev Short : List ℕ → Type 0
+Short h = length h < streamLength h
+
+pub kept-is-short : (s : List ℕ) → Short (kept s)
+kept-is-short s =
+    dite (decLt (length s) (streamLength s))
+    (λ short. kept-by Short s short (omega (arith, length-early [] (omega arith))))
+    (λ long. rw (kept-long s (omega arith)) (omega (arith, length-early [] (omega arith))))
+
+pub record WholeOrNone (o : Outcome) : Type 0 where
+  pub sized : Whole (o .stream) → validationOf (o .stream) .offset ≡ length (o .stream)
+  pub none : (Whole (o .stream) → ⊥) → o .stream ≡ []
+  pub forgets : Whole (o .stream) → o .held ≡ []
+
+extended-sized : (h : List ℕ) (byte : ℕ) → Short h → Whole (extended h byte) → validationOf (extended h byte) .offset ≡ length (extended h byte)
+extended-sized h byte short =
+    extended-by (λ (s : List ℕ). Whole s → validationOf s .offset ≡ length s) h byte
+    (λ e w. absurd (few-whole (byte ∷ []) (omega arith) w))
+    (λ w. absurd (few-whole [] (omega arith) w))
+    (λ low there w.
+    let whole = whole-clean (h ++ (byte ∷ [])) w in
+    omega (arith, whole .offset, whole .held, length-grows h (byte ∷ []), length-append h (byte ∷ [])))
+
+pub whole-or-none : (h chunk : List ℕ) → Short h → WholeOrNone (outcomeOf h chunk)
+whole-or-none h chunk = outcome-ind (λ (h chunk : List ℕ) (o : Outcome). Short h → WholeOrNone o)
+    (λ h short. record { sized = λ w. absurd (nothing-whole w); none = λ no-stream. refl; forgets = λ w. absurd (nothing-whole w) })
+    (λ h byte rest w short. record { sized = extended-sized h byte short; none = λ no-stream. absurd (no-stream w); forgets = λ w. refl })
+    (λ h byte rest faulty o then short.
+    let later = then (kept-is-short (extended h byte)) in
+    record { sized = later .sized; none = later .none; forgets = later .forgets })
+    h chunk

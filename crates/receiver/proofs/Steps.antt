@@ -182,7 +182,7 @@ onward p byte h held faulty =
         rw is (onward-low p byte l below short most low (λ w. faulty (rw is w)))
 
 -- what completes a stream is a low byte behind a stream's beginning
-few-whole : (s : List ℕ) → length s < 2 → Whole s → ⊥
+pub few-whole : (s : List ℕ) → length s < 2 → Whole s → ⊥
 few-whole s few w = omega (arith, whole-clean s w .held, length-early s (omega arith))
 
 pub completes : (p byte : ℕ) (h : List ℕ) → Held h → Whole (extended h byte) → Completes p byte h (extended h byte)

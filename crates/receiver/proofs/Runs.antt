@@ -1,0 +1,122 @@
+-- Runs of calls: however a recording is cut, they deliver just what it delivers.
+use Prim.Native.Nat.{ℕ, zero, suc, _+_, _-_, _<_, _≤_}
+use native.Mathlib.Omega.{arith}
+use native.Mathlib.Nat.{add-zero}
+use native.Mathlib.Decide.{decLt, ℕ-discrete}
+use mathlib.Core.Path.{_≡_, refl, sym, ap, ap₂, _∙_}
+use mathlib.Core.Logic.{dite}
+use mathlib.Core.List.{List, [], _∷_, _++_, append-assoc, append-nil}
+use lib.ListN.{length, take, drop, length-drop}
+use lib.Seq.{take-append-seam}
+use Rattle.basics.specs.Bytes.{over}
+use Rattle.basics.specs.Choice.{choose}
+use Rattle.stream.specs.Validation.{validationOf}
+use Rattle.record.specs.Record.{recordOf}
+use Rattle.recording.specs.Decode.{beginning}
+use Rattle.recording.specs.Next.{firstOf, payloadOf}
+use Rattle.recording.specs.Recording.{Delivery, deliveryAt, deliveriesFrom, contentsOf, records}
+use Rattle.recording.proofs.Decoding.{beginning-whole, beginning-none}
+use Rattle.recording.proofs.Deliveries.{Whole}
+use Rattle.receiver.specs.Holding.{kept}
+use Rattle.receiver.specs.Receive.{Outcome, outcomeOf, heldIn, outcomeIn, answerOf, acceptedOf, receivedOf, outputAfter, resetOf}
+use Rattle.receiver.specs.Feeding.{fresh, Called, deliveredIn, Run, ended, used-up, call, joined}
+use Rattle.receiver.specs.declared.Receiver.{Receiver}
+use Rattle.receiver.specs.declared.Received.{Received}
+use Rattle.receiver.proofs.Extending.{kept-early}
+use Rattle.receiver.proofs.Steps.{Held, none, held-kept, held-nothing}
+use Rattle.receiver.proofs.Outcomes.{deliveredAt, delivered-whole, delivered-none, follows, uses}
+use Rattle.receiver.proofs.Answers.{accepted, accepted-exactly, answer-is, output-is, memory-is}
+
+-- ── what one call delivers
+
+-- as its answer and the output say it
+told : (end : ℕ) (o : Outcome) (out : List ℕ) → deliveredIn end (acceptedOf o) (over (payloadOf (beginning (o .stream))) out) ≡ deliveredAt end (o .stream)
+unfolding choose
+told end o out =
+    let s = o .stream in
+    dite (ℕ-discrete (validationOf s .verdict) 0)
+    (λ w.
+    rw (beginning-whole s w, delivered-whole end s w, take-append-seam (recordOf s .payload) (drop (length (recordOf s .payload)) out)))
+    (λ faulty. rw (beginning-none s faulty, delivered-none end s faulty))
+
+-- ── any number of calls
+
+-- from a state that holds h, which stands from p on
+run-deliveries : {before : ℕ} {receiver : Receiver} {memory : List ℕ} {chunks : List (List ℕ)} {ds : List Delivery} (p : ℕ) (h : List ℕ)
+    → heldIn receiver memory ≡ h → Held h → p + length h ≡ before → Run before receiver memory chunks ds → ds ≡ deliveriesFrom p (h ++ joined chunks)
+run-deliveries p h is held from ended = sym (ap (deliveriesFrom p) (append-nil h) ∙ held-nothing p h held)
+run-deliveries p h is held from (used-up run) = run-deliveries p h is held from run
+run-deliveries {before} {receiver} {memory} p h is held from (call {chunks = rest} chunk out answer out' memory' called accept run) =
+    let o = outcomeOf h chunk in
+    let same : outcomeIn receiver memory chunk ≡ o = ap (λ (x : List ℕ). outcomeOf x chunk) is in
+    let answered : answer ≡ acceptedOf o = answer-is called accept ∙ ap acceptedOf same in
+    let written : out' ≡ over (payloadOf (beginning (o .stream))) out = output-is called accept ∙ ap (λ (x : Outcome). over (payloadOf (beginning (x .stream))) out) same in
+    let remembered : take (length (o .held)) memory' ≡ o .held = rw same at (memory-is called accept) in
+    let used : answer .used ≡ o .used = ap (λ (r : Received). r .used) answered in
+    let one = follows h chunk held p in
+    let holds : heldIn (answer .receiver) memory' ≡ o .held =
+    ap (λ (r : Received). heldIn (r .receiver) memory') answered ∙ ap kept remembered ∙ held-kept (o .held) (one .held) in
+    let end : p + length h + o .used ≡ before + answer .used = omega (arith, used) in
+    let more = run-deliveries (one .place) (o .held) holds (one .held) (one .there ∙ end) run in
+    let first : deliveredIn (before + answer .used) answer out' ≡ deliveredAt (before + answer .used) (o .stream) =
+    ap₂ (deliveredIn (before + answer .used)) answered written ∙ told (before + answer .used) o out in
+    ap₂ {C = List Delivery} (λ a b. a ++ b) first (more ∙ ap (λ (n : ℕ). deliveriesFrom (one .place) (o .held ++ (drop n chunk ++ joined rest))) used)
+    ∙ ap (λ (n : ℕ). deliveredAt n (o .stream) ++ deliveriesFrom (one .place) (o .held ++ (drop (o .used) chunk ++ joined rest))) (sym end)
+    ∙ sym (one .same (joined rest))
+
+-- a receiver that is reset, whatever it held, delivers from there on as on a recording that begins at that byte
+pub reset-fresh : (before : ℕ) (receiver : Receiver) (memory : List ℕ) (chunks : List (List ℕ)) (ds : List Delivery)
+    → Run before (resetOf receiver) memory chunks ds → ds ≡ deliveriesFrom before (joined chunks)
+reset-fresh before receiver memory chunks ds run = run-deliveries before [] (kept-early [] (omega arith)) none (add-zero before) run
+
+-- a recording that is fed to a fresh receiver until it is used up gives exactly its deliveries, in order, however it was cut: each stream
+-- ends with the last byte used
+pub received-deliveries : (memory : List ℕ) (chunks : List (List ℕ)) (ds : List Delivery) → Run 0 fresh memory chunks ds → ds ≡ deliveriesFrom 0 (joined chunks)
+received-deliveries memory chunks ds run = reset-fresh 0 fresh memory chunks ds run
+
+-- so it gives exactly its records
+pub received-records : (memory : List ℕ) (chunks : List (List ℕ)) (ds : List Delivery) → Run 0 fresh memory chunks ds → contentsOf ds ≡ records (joined chunks)
+received-records memory chunks ds run = ap contentsOf (received-deliveries memory chunks ds run)
+
+-- ── any chunks can be used up, from any state and with any memory
+
+module _ (out : List ℕ) (room : 508 ≤ length out) where
+  abbrev Fed : List (List ℕ) → Type 0
+  Fed chunks = (before : ℕ) (receiver : Receiver) (memory : List ℕ) → (ds : List Delivery) × Run before receiver memory chunks ds
+
+  none-left : (chunk : List ℕ) (chunks : List (List ℕ)) → length chunk ≡ 0 → Fed chunks → Fed (chunk ∷ chunks)
+  none-left [] chunks empty rest before receiver memory = let (ds, run) = rest before receiver memory in (ds, used-up run)
+  none-left (byte ∷ more) chunks empty rest before receiver memory = absurd (omega arith)
+
+  -- one call, which uses a byte at least
+  some-left : (chunk : List ℕ) (chunks : List (List ℕ)) → 0 < length chunk → ((n : ℕ) → 0 < n → Fed (drop n chunk ∷ chunks)) → Fed (chunk ∷ chunks)
+  some-left chunk chunks some rest before receiver memory =
+      let o = outcomeIn receiver memory chunk in
+      let answer = receivedOf receiver memory chunk (length out) in
+      let out' = outputAfter receiver memory chunk out in
+      let memory' = over (o .held) memory in
+      let called : Called receiver memory chunk out answer out' memory' =
+      record {
+        answers = refl;
+        output = refl;
+        remembers = record {
+          refused = λ refused. absurd (omega (arith, accepted (length out) room));
+          held = λ zero. take-append-seam (o .held) (drop (length (o .held)) memory);
+        };
+      } in
+      let accept = accepted-exactly receiver memory chunk (length out) .1 room in
+      let used : answer .used ≡ o .used = ap (λ (r : Received). r .used) (answer-is called accept) in
+      let (ds, run) = rest (answer .used) (omega (arith, used, uses (heldIn receiver memory) chunk .some some)) (before + answer .used) (answer .receiver) memory' in
+      (_, call chunk out answer out' memory' called accept run)
+
+  fed-chunk : (fuel : ℕ) (chunk : List ℕ) (chunks : List (List ℕ)) → length chunk ≤ fuel → Fed chunks → Fed (chunk ∷ chunks)
+  fed-chunk zero chunk chunks enough rest = none-left chunk chunks (omega arith) rest
+  fed-chunk (suc fuel) chunk chunks enough rest =
+      dite (decLt 0 (length chunk))
+      (λ some. some-left chunk chunks some (λ n pos. fed-chunk fuel (drop n chunk) chunks (omega (arith, length-drop n chunk)) rest))
+      (λ empty. none-left chunk chunks (omega arith) rest)
+
+  -- so a run over a recording is there, and comes to its end
+  pub run-exists : (chunks : List (List ℕ)) → Fed chunks
+  run-exists [] before receiver memory = ([], ended)
+  run-exists (chunk ∷ chunks) before receiver memory = fed-chunk (length chunk) chunk chunks (omega arith) (run-exists chunks) before receiver memory
