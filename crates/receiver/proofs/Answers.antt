@@ -64,6 +64,37 @@ module _ (receiver : Receiver) (memory chunk : List ℕ) (room : ℕ) where
     (λ short. ap (λ (r : Received). r .number) (answers-refused short)),
   )
 
+-- ── what `receive` ensures: its answer, its output and its memory
+
+abbrev Ensured : Receiver → List ℕ → List ℕ → List ℕ → Received → List ℕ → List ℕ → Type 0
+Ensured receiver memory chunk out answer out' memory' =
+    (answer ≡ receivedOf receiver memory chunk (length out))
+    × ((out' ≡ outputAfter receiver memory chunk out) × Remembered receiver memory chunk (length out) memory')
+
+module _ (receiver : Receiver) (memory chunk out : List ℕ) where
+  pub refused-all : length out < 508 → Ensured receiver memory chunk out (answerOf (without 5) 0 receiver) out memory
+  refused-all short =
+      let five = refused (length out) short in (
+        sym (answers-refused receiver memory chunk (length out) short),
+        (
+          sym (when-refused (refusal (length out)) _ _ (λ zero. omega (arith, five))),
+          record { refused = λ more. refl; held = λ zero. absurd (omega (arith, five)) },
+        ),
+      )
+
+  pub accepted-all : (answer : Received) (out' memory' : List ℕ) → 508 ≤ length out → answer ≡ acceptedOf (outcomeIn receiver memory chunk)
+      → out' ≡ over (payloadOf (beginning (outcomeIn receiver memory chunk .stream))) out
+      → take (answer .receiver .held) memory' ≡ outcomeIn receiver memory chunk .held
+      → Ensured receiver memory chunk out answer out' memory'
+  accepted-all answer out' memory' fits is output held =
+      let zero = accepted (length out) fits in (
+        is ∙ sym (answers-accepted receiver memory chunk (length out) fits),
+        (
+          output ∙ sym (when-none (refusal (length out)) _ _ zero),
+          record { refused = λ more. absurd (omega (arith, zero)); held = λ none. rw is at held },
+        ),
+      )
+
 -- ── a call that isn't refused
 
 -- a whole stream that ends with the last byte used, among the bytes held before and used, and its record as the answer and the output tell it

@@ -34,6 +34,12 @@ module _ (h : List ℕ) (byte : ℕ) where
   unfolding extended choose
   extended-low low there = rw (ne-eqb byte 0xAA (λ e. omega arith), lt-leb 0x80 byte low, ne-eqb (length h) 0 (λ e. omega arith))
 
+-- of a byte of 0x80 or more it doesn't matter what is held
+pub same-high : (h : List ℕ) (byte : ℕ) → 0x80 ≤ byte → extended h byte ≡ extended [] byte
+same-high h byte high =
+    dite (ℕ-discrete byte 0xAA) (λ e. extended-sync h byte e ∙ sym (extended-sync [] byte e))
+    (λ other. extended-high h byte other high ∙ sym (extended-high [] byte other high))
+
 -- the three things that a byte can do
 pub extended-by : (P : List ℕ → Type 0) (h : List ℕ) (byte : ℕ)
     → (byte ≡ 0xAA → P (byte ∷ [])) → P [] → (byte < 0x80 → 0 < length h → P (h ++ (byte ∷ []))) → P (extended h byte)

@@ -58,7 +58,7 @@ pub delivered-none : (end : ℕ) (s : List ℕ) → (Whole s → ⊥) → delive
 unfolding deliveredAt choose
 delivered-none end s faulty = rw (ne-eqb _ 0 faulty)
 
-nothing-whole : Whole [] → ⊥
+pub nothing-whole : Whole [] → ⊥
 nothing-whole w = few-whole [] (omega arith) w
 
 -- o is what came of the chunk behind the bytes h, which stand from p on: what was to be delivered from there on is what o delivers and

@@ -1,111 +1,111 @@
+-- `receiver::feed` meets its contract: what is to come of the bytes from here on is what was to come of all of them. Assumes nothing.
+use Prim.Native.Nat.{_-_, _≤_}
+use native.Mathlib.Omega.{arith}
+use native.Mathlib.Nat.{sub-zero}
+use mathlib.Core.Path.{ap}
+use lib.ListN.{length, take}
+use Rattle.receiver.specs.Holding.{kept}
+use Rattle.receiver.proofs.Looping.{FeedAt, feed-starts, feed-on, feed-faulty, feed-found, feed-ends, full-within}
+use borrow.Author.Needs.{needs}
 use Rattle.receiver.proofs.feed.Statement.{statement}
 use Rattle.receiver.proofs.feed.Tie as tie
-use Rattle.receiver.proofs.feed.Reads as reads
-use Rattle.receiver.proofs.feed.Lts as lts
-use Rattle.receiver.proofs.answer.Reads as answer-reads
-use Rattle.receiver.proofs.buffer.nothing.Reads as nothing-reads
-use Rattle.receiver.proofs.buffer.restore.Reads as restore-reads
-use Rattle.receiver.proofs.buffer.take_byte.Reads as take-byte-reads
-use Rattle.recording.proofs.decode.Reads as decode-reads
-use Rattle.recording.proofs.without.Reads as without-reads
 
 abbrev Inv-loop : tie.InvT-loop
-Inv-loop memory₀ held chunk out₀ state₀ used₀ memory out state used = ?
+Inv-loop memory₀ held chunk out₀ state₀ used₀ memory out state used = FeedAt (kept (take held memory₀)) chunk out₀ memory out state used
 
 abbrev μ-loop : tie.MeasureT-loop
-μ-loop memory₀ held chunk out₀ state₀ used₀ memory out state used = ?
+μ-loop memory₀ held chunk out₀ state₀ used₀ memory out state used = length chunk - used
 
--- src/rt:60:9
 restore-requires : tie.Need-restore-requires Inv-loop μ-loop
-restore-requires c κs = ?
+restore-requires c κs = search needs
 
--- src/rt:62:5
 loop-holds : tie.Need-loop-holds Inv-loop μ-loop
-loop-holds c = ?
+loop-holds c =
+    let at = c .before .before .before .before .before in
+    feed-starts (at .args .memory .now) (at .args .chunk .now) (at .args .out .now) (at .args .held) (c .restore .result) (at .pre .0) (c .restore .ensures)
 
--- src/rt:63:50
 shared-slice-read-take-byte : tie.Need-shared-slice-read-take-byte Inv-loop μ-loop
-shared-slice-read-take-byte c = ?
+shared-slice-read-take-byte c = search needs
 
--- src/rt:63:9
 take-byte-requires : tie.Need-take-byte-requires Inv-loop μ-loop
-take-byte-requires c κs = ?
+take-byte-requires c κs = search needs
 
--- src/rt:64:9
 add-used : tie.Need-add-used Inv-loop μ-loop
-add-used c = ?
+add-used c = search needs
 
--- src/rt:67:43
 sub-decode : tie.Need-sub-decode Inv-loop μ-loop
-sub-decode c = ?
+sub-decode c = search needs
 
--- src/rt:67:43
 part-decode-start : tie.Need-part-decode-start Inv-loop μ-loop
-part-decode-start c = ?
+part-decode-start c = search needs
 
--- src/rt:67:43
 part-decode-end : tie.Need-part-decode-end Inv-loop μ-loop
-part-decode-end c = ?
+part-decode-end c =
+    let loop = c .before .before .before .before .before .before .before .before .before .loop in
+    let took = c .before .before .before .before .before .take-byte in
+    omega (arith, full-within (loop .inv) (omega arith) (took .last .0) (omega arith) (took .result) (took .ensures) (c .before .if1 .taken))
 
--- src/rt:67:17
 decode-requires : tie.Need-decode-requires Inv-loop μ-loop
-decode-requires c κs = ?
+decode-requires c κs = search needs
 
--- src/rt:69:17
 answer-requires : tie.Need-answer-requires Inv-loop μ-loop
-answer-requires c κs = ?
+answer-requires c κs = search needs
 
--- src/rt:69:17
 same-length : tie.Need-same-length Inv-loop μ-loop
-same-length c = ?
+same-length c =
+    omega (arith, c .before .before .before .before .before .before .before .before .before .before .before .before .before .before .before .before .loop .inv .size, c .before .before .before .before .before .before .before .before .before .before .before .before .before .before .before .before .before .before .before .before .before .before .pre .0)
 
--- src/rt:69:17
 same-length-2 : tie.Need-same-length-2 Inv-loop μ-loop
-same-length-2 c = ?
+same-length-2 c =
+    omega (arith, ap length (c .before .before .before .before .before .before .before .before .before .before .before .before .before .before .before .before .loop .inv .output))
 
--- src/rt:69:17
 returns : tie.Need-returns Inv-loop μ-loop
-returns c = ?
+returns c =
+    let loop = c .before .before .before .before .before .before .before .before .before .before .before .before .before .before .before .before .loop in
+    let took = c .before .before .before .before .before .before .before .before .before .before .before .before .take-byte in
+    let decode = c .before .before .before .before .decode in
+    rw (c .answer .ensures)
+    (feed-found (loop .inv) (omega (arith, c .before .before .before .before .before .before .before .before .before .before .before .before .before .before .before .loop-test)) (took .last .0) (omega (arith, took .kept .0, loop .inv .size)) (took .result) (took .ensures) (c .before .before .before .before .before .before .before .before .if1 .taken) (omega (arith, c .before .before .before .before .before .before .before .before .before .before .before .before .before .before .before .before .before .before .before .before .before .before .pre .1, ap length (loop .inv .output))) (decode .result) (decode .last .1 .0) (rw sub-zero at (decode .ensures .0)) (rw sub-zero at (decode .ensures .1)) (c .before .if2 .taken))
 
--- src/rt:71:13
 nothing-requires : tie.Need-nothing-requires Inv-loop μ-loop
-nothing-requires c κs = ?
+nothing-requires c κs = search needs
 
--- src/rt:62:5
 loop-less : tie.Need-loop-less Inv-loop μ-loop
-loop-less c = ?
+loop-less c = search needs
 
--- src/rt:62:5
 loop-again : tie.Need-loop-again Inv-loop μ-loop
-loop-again c = ?
+loop-again c =
+    let loop = c .before .before .before .before .before .before .before .before .before .before .before .before .before .before .before .before .loop in
+    let took = c .before .before .before .before .before .before .before .before .before .before .before .before .take-byte in
+    let decode = c .before .before .before .before .decode in
+    rw (c .nothing .ensures)
+    (feed-faulty (loop .inv) (omega (arith, c .before .before .before .before .before .before .before .before .before .before .before .before .before .before .before .loop-test)) (took .last .0) (omega (arith, took .kept .0, loop .inv .size)) (took .result) (took .ensures) (c .before .before .before .before .before .before .before .before .if1 .taken) (omega (arith, c .before .before .before .before .before .before .before .before .before .before .before .before .before .before .before .before .before .before .before .before .before .before .pre .1, ap length (loop .inv .output))) (decode .result) (decode .last .1 .0) (rw sub-zero at (decode .ensures .0)) (rw sub-zero at (decode .ensures .1)) (c .before .if2 .left))
 
--- src/rt:62:5
 loop-less-2 : tie.Need-loop-less-2 Inv-loop μ-loop
-loop-less-2 c = ?
+loop-less-2 c = search needs
 
--- src/rt:62:5
 loop-again-2 : tie.Need-loop-again-2 Inv-loop μ-loop
-loop-again-2 c = ?
+loop-again-2 c =
+    let loop = c .before .before .before .before .before .before .before .before .loop in
+    let took = c .before .before .before .before .take-byte in
+    feed-on (loop .inv) (omega arith) (took .last .0) (omega arith) (took .result) (took .ensures) (c .if1 .left)
 
--- src/rt:74:12
 without-requires : tie.Need-without-requires Inv-loop μ-loop
-without-requires c κs = ?
+without-requires c κs = search needs
 
--- src/rt:74:5
 answer-requires-2 : tie.Need-answer-requires-2 Inv-loop μ-loop
-answer-requires-2 c κs = ?
+answer-requires-2 c κs = search needs
 
--- src/rt:54:1
 same-length-3 : tie.Need-same-length-3 Inv-loop μ-loop
-same-length-3 c = ?
+same-length-3 c = search needs
 
--- src/rt:54:1
 same-length-4 : tie.Need-same-length-4 Inv-loop μ-loop
-same-length-4 c = ?
+same-length-4 c = search needs
 
--- src/rt:54:1
 returns-2 : tie.Need-returns-2 Inv-loop μ-loop
-returns-2 c = ?
+returns-2 c =
+    let loop = c .before .before .before .loop in
+    rw (c .answer2 .ensures, c .before .without .ensures) (feed-ends (loop .inv) (omega (arith, loop .inv .within)))
 
 pub feed-spec : {M : Type 1} → statement M
 feed-spec =

@@ -1,54 +1,56 @@
+-- `receiver::buffer::restore` meets its contract. Assumes nothing.
+use Prim.Native.Nat.{_<_, _≤_}
+use native.Mathlib.Omega.{arith}
+use native.Mathlib.Nat.{sub-zero}
+use mathlib.Core.Path.{_≡_}
+use lib.ListN.{length, take}
+use Rattle.stream.specs.Layout.{streamLength}
+use Rattle.receiver.proofs.Memory.{restored-full, restored-long, restored-most, restored}
 use borrow.Author.Needs.{needs}
 use Rattle.receiver.proofs.buffer.restore.Statement.{statement}
 use Rattle.receiver.proofs.buffer.restore.Tie as tie
-use Rattle.receiver.proofs.buffer.restore.Reads as reads
-use Rattle.receiver.proofs.buffer.restore.Lts as lts
-use Rattle.receiver.proofs.buffer.nothing.Reads as nothing-reads
-use Rattle.receiver.proofs.length.announced.Reads as announced-reads
 
--- src/buffer.rt:28:9
 nothing-requires : tie.Need-nothing-requires
 nothing-requires c κs = search needs
 
--- src/buffer.rt:28:9
 returns : tie.Need-returns
-returns c = ?
+returns c = let at = c .before .before .before in rw (c .nothing .ensures) (restored-full (at .args .memory .now) (at .args .held) (at .pre) (omega arith))
 
--- src/buffer.rt:30:27
 sub-announced : tie.Need-sub-announced
 sub-announced c = search needs
 
--- src/buffer.rt:30:27
 part-announced-start : tie.Need-part-announced-start
 part-announced-start c = search needs
 
--- src/buffer.rt:30:27
 part-announced-end : tie.Need-part-announced-end
 part-announced-end c = search needs
 
--- src/buffer.rt:30:9
 announced-requires : tie.Need-announced-requires
 announced-requires c κs = search needs
 
--- src/buffer.rt:32:9
 nothing-requires-2 : tie.Need-nothing-requires-2
 nothing-requires-2 c κs = search needs
 
--- src/buffer.rt:32:9
 returns-2 : tie.Need-returns-2
-returns-2 c = ?
+returns-2 c =
+    let at = c .before .before .before .before .before .before in
+    let total = rw sub-zero at (c .before .before .announced .ensures) in
+    rw (c .nothing2 .ensures) (restored-long (at .args .memory .now) (at .args .held) (omega (arith, at .pre)) (omega (arith, total)))
 
--- src/buffer.rt:35:9
 nothing-requires-3 : tie.Need-nothing-requires-3
 nothing-requires-3 c κs = search needs
 
--- src/buffer.rt:35:9
 returns-3 : tie.Need-returns-3
-returns-3 c = ?
+returns-3 c =
+    let at = c .before .before .before .before .before .before .before in
+    let total = rw sub-zero at (c .before .before .before .announced .ensures) in
+    rw (c .nothing3 .ensures) (restored-most (at .args .memory .now) (at .args .held) (omega (arith, total)))
 
--- src/buffer.rt:23:1
 returns-4 : tie.Need-returns-4
-returns-4 c = ?
+returns-4 c =
+    let at = c .before .before .before .before .before .before in
+    let total = rw sub-zero at (c .before .before .announced .ensures) in
+    rw total (restored (at .args .memory .now) (at .args .held) (omega (arith, at .pre)) (omega (arith, total)) (omega (arith, total)))
 
 pub restore-spec : {M : Type 1} → statement M
 restore-spec =

@@ -1,36 +1,32 @@
+-- `receiver::buffer::take_byte` meets its contract. Assumes nothing.
+use native.Mathlib.Omega.{arith}
+use lib.ListN.{take}
+use Rattle.receiver.proofs.Memory.{high-alone, low-unused}
 use borrow.Author.Needs.{needs}
 use Rattle.receiver.proofs.buffer.take_byte.Statement.{statement}
 use Rattle.receiver.proofs.buffer.take_byte.Tie as tie
-use Rattle.receiver.proofs.buffer.take_byte.Reads as reads
-use Rattle.receiver.proofs.buffer.take_byte.Lts as lts
-use Rattle.receiver.proofs.buffer.add.Reads as add-reads
-use Rattle.receiver.proofs.buffer.begin.Reads as begin-reads
 
--- src/buffer.rt:72:9
 begin-requires : tie.Need-begin-requires
 begin-requires c κs = search needs
 
--- src/buffer.rt:72:9
 same-length : tie.Need-same-length
 same-length c = search needs
 
--- src/buffer.rt:72:9
 returns : tie.Need-returns
-returns c = ?
+returns c =
+    let args = c .before .before .before .before .before .before .args in
+    let begin = c .before .before .begin in
+    high-alone (take (args .u .held) (args .memory .now)) (args .byte) (begin .last .0) (begin .result) (omega arith) (begin .ensures)
 
--- src/buffer.rt:75:9
 returns-2 : tie.Need-returns-2
-returns-2 c = ?
+returns-2 c = let at = c .before .before .before .before in low-unused (at .args .memory .now) (at .args .byte) (at .args .u) (omega arith) (c .if2 .taken) (at .pre .1)
 
--- src/buffer.rt:77:5
 add-requires : tie.Need-add-requires
 add-requires c κs = search needs
 
--- src/buffer.rt:67:1
 same-length-2 : tie.Need-same-length-2
 same-length-2 c = search needs
 
--- src/buffer.rt:67:1
 returns-3 : tie.Need-returns-3
 returns-3 c = search needs
 

@@ -1,63 +1,54 @@
+-- `receiver::length::announced` meets its contract, kind by kind. Assumes nothing.
+use native.Mathlib.Omega.{arith}
+use mathlib.Core.Path.{_≡_, sym, _∙_}
+use lib.ListN.{length}
+use Rattle.stream.specs.Layout.{headerLength, frameWidth, frameCount}
+use Rattle.stream.proofs.Headers.{length-as}
+use Rattle.stream.proofs.Lengths.{length-early}
 use borrow.Author.Needs.{needs}
 use Rattle.receiver.proofs.length.announced.Statement.{statement}
 use Rattle.receiver.proofs.length.announced.Tie as tie
-use Rattle.receiver.proofs.length.announced.Reads as reads
-use Rattle.receiver.proofs.length.announced.Lts as lts
-use Rattle.receiver.proofs.length.packet.Reads as packet-reads
-use Rattle.receiver.proofs.length.telegram.Reads as telegram-reads
-use Rattle.stream.proofs.kind_of.Reads as kind-of-reads
 
--- src/length.rt:29:9
 returns : tie.Need-returns
-returns c = ?
+returns c = sym (length-early (c .before .before .args .stream .now) (omega arith))
 
--- src/length.rt:31:27
 shared-slice-read-kind-of : tie.Need-shared-slice-read-kind-of
 shared-slice-read-kind-of c = search needs
 
--- src/length.rt:31:11
 kind-of-requires : tie.Need-kind-of-requires
 kind-of-requires c κs = search needs
 
--- src/length.rt:32:25
 enum-told : tie.Need-enum-told
 enum-told c = search needs
 
--- src/length.rt:32:25
 packet-requires : tie.Need-packet-requires
 packet-requires c κs = search needs
 
--- src/length.rt:33:27
 enum-told-2 : tie.Need-enum-told-2
 enum-told-2 c = search needs
 
--- src/length.rt:34:27
 enum-told-3 : tie.Need-enum-told-3
 enum-told-3 c = search needs
 
--- src/length.rt:34:27
 telegram-requires : tie.Need-telegram-requires
 telegram-requires c κs = search needs
 
--- src/length.rt:35:26
 enum-told-4 : tie.Need-enum-told-4
 enum-told-4 c = search needs
 
--- src/length.rt:25:1
 returns-2 : tie.Need-returns-2
-returns-2 c = ?
+returns-2 c = let at = c .before .before .before in c .packet .ensures ∙ sym (length-as (at .before .before .before .before .args .stream .now) _ (sym (at .kind-of .ensures) ∙ c .before .enum-told .given .1))
 
--- src/length.rt:25:1
 returns-3 : tie.Need-returns-3
-returns-3 c = ?
+unfolding headerLength frameWidth frameCount
+returns-3 c = let at = c .before .before in sym (length-as (at .before .before .before .before .args .stream .now) _ (sym (at .kind-of .ensures) ∙ c .enum-told2 .given .1))
 
--- src/length.rt:25:1
 returns-4 : tie.Need-returns-4
-returns-4 c = ?
+returns-4 c = let at = c .before .before .before in c .telegram .ensures ∙ sym (length-as (at .before .before .before .before .args .stream .now) _ (sym (at .kind-of .ensures) ∙ c .before .enum-told3 .given .1))
 
--- src/length.rt:25:1
 returns-5 : tie.Need-returns-5
-returns-5 c = ?
+unfolding headerLength frameWidth frameCount
+returns-5 c = let at = c .before .before in sym (length-as (at .before .before .before .before .args .stream .now) _ (sym (at .kind-of .ensures) ∙ c .enum-told4 .given .1))
 
 pub announced-spec : {M : Type 1} → statement M
 announced-spec =

@@ -1,32 +1,30 @@
+-- `receiver::length::packet` meets its contract. Assumes nothing.
+use native.Mathlib.Omega.{arith}
+use lib.ListN.{length, getD, List·getD-eq-default}
+use Rattle.stream.specs.Layout.{headerLength, frameWidth, frameCount}
 use borrow.Author.Needs.{needs}
 use Rattle.receiver.proofs.length.packet.Statement.{statement}
 use Rattle.receiver.proofs.length.packet.Tie as tie
-use Rattle.receiver.proofs.length.packet.Reads as reads
-use Rattle.receiver.proofs.length.packet.Lts as lts
 
--- src/length.rt:11:9
 returns : tie.Need-returns
-returns c = ?
+unfolding headerLength frameWidth frameCount
+returns c = omega (arith, List·getD-eq-default (c .before .args .stream .now) 0 {n = 8} (omega arith))
 
--- src/length.rt:13:15
 shared-slice-read-result : tie.Need-shared-slice-read-result
 shared-slice-read-result c = search needs
 
--- src/length.rt:13:15
 cast-result : tie.Need-cast-result
-cast-result c = ?
+cast-result c = omega (arith, c .shared-slice-known .given 8)
 
--- src/length.rt:13:10
 mul-result : tie.Need-mul-result
-mul-result c = ?
+mul-result c = omega (arith, c .shared-slice-known .given 8)
 
--- src/length.rt:13:5
 add-result : tie.Need-add-result
-add-result c = ?
+add-result c = omega (arith, c .shared-slice-known .given 8)
 
--- src/length.rt:7:1
 returns-2 : tie.Need-returns-2
-returns-2 c = ?
+unfolding headerLength frameWidth frameCount
+returns-2 c = search needs
 
 pub packet-spec : {M : Type 1} → statement M
 packet-spec =

@@ -1,37 +1,33 @@
+-- `receiver::length::telegram` meets its contract. Assumes nothing.
+use native.Mathlib.Omega.{arith}
+use lib.ListN.{length, getD, List·getD-eq-default}
+use Rattle.stream.specs.Layout.{headerLength, frameWidth, frameCount}
 use borrow.Author.Needs.{needs}
 use Rattle.receiver.proofs.length.telegram.Statement.{statement}
 use Rattle.receiver.proofs.length.telegram.Tie as tie
-use Rattle.receiver.proofs.length.telegram.Reads as reads
-use Rattle.receiver.proofs.length.telegram.Lts as lts
-use Rattle.stream.proofs.telegram_frames.Reads as telegram-frames-reads
 
--- src/length.rt:20:9
 returns : tie.Need-returns
-returns c = ?
+unfolding headerLength frameWidth frameCount
+returns c = omega (arith, List·getD-eq-default (c .before .before .args .stream .now) 0 {n = 6} (omega arith))
 
--- src/length.rt:22:37
 shared-slice-read-telegram-frames : tie.Need-shared-slice-read-telegram-frames
 shared-slice-read-telegram-frames c = search needs
 
--- src/length.rt:22:37
 cast-telegram-frames : tie.Need-cast-telegram-frames
-cast-telegram-frames c = ?
+cast-telegram-frames c = omega (arith, c .shared-slice-known2 .given 6)
 
--- src/length.rt:22:13
 telegram-frames-requires : tie.Need-telegram-frames-requires
 telegram-frames-requires c κs = search needs
 
--- src/length.rt:22:9
 mul-result : tie.Need-mul-result
 mul-result c = search needs
 
--- src/length.rt:22:5
 add-result : tie.Need-add-result
 add-result c = search needs
 
--- src/length.rt:16:1
 returns-2 : tie.Need-returns-2
-returns-2 c = ?
+unfolding headerLength frameWidth frameCount
+returns-2 c = omega (arith, c .telegram-frames .ensures)
 
 pub telegram-spec : {M : Type 1} → statement M
 telegram-spec =

@@ -1,0 +1,112 @@
+-- Laws of the memory's first bytes: what is held of them, and what one byte does.
+use Prim.Native.Nat.{ℕ, _+_, _<_, _≤_}
+use native.Mathlib.Omega.{arith}
+use native.Mathlib.Decide.{decLt, ℕ-discrete}
+use native.Mathlib.Numerals.{add-one}
+use mathlib.Core.Path.{_≡_, refl, sym, ap, subst⁻¹, _∙_}
+use mathlib.Core.Logic.{dite}
+use mathlib.Core.List.{List, [], _∷_, _++_}
+use lib.ListN.{length, take, set, length-append}
+use lib.Seq.{take-suc-set, take-all, length-take-le}
+use Rattle.stream.specs.Layout.{streamLength}
+use Rattle.stream.proofs.Lengths.{length-early, length-grows, length-next}
+use Rattle.receiver.specs.Holding.{extended, kept}
+use Rattle.receiver.specs.Stage.{Holding, Restored, TookByte, unfinished, full}
+use Rattle.receiver.specs.declared.buffer.Unfinished.{Unfinished}
+use Rattle.receiver.proofs.Extending.{extended-sync, extended-high, extended-none, extended-low, same-high, kept-short, kept-long, kept-most, kept-early}
+
+pub holding-nothing : (memory : List ℕ) → Holding memory (record { held = 0; least = 6 })
+holding-nothing memory =
+    let six = length-early [] (omega arith) in
+    record { short = omega arith; announced = omega (arith, six); most = omega (arith, six) }
+
+-- there is room for one more
+pub holding-room : (memory : List ℕ) (u : Unfinished) → Holding memory u → u .held < 772
+holding-room memory u holding = omega (arith, holding .short, holding .announced, holding .most)
+
+-- ── what a state holds
+
+module _ (memory : List ℕ) (n : ℕ) where
+  restored-nothing : kept (take n memory) ≡ [] → Restored memory n (record { held = 0; least = 6 })
+  restored-nothing none = record { holding = holding-nothing memory; bytes = sym none }
+
+  pub restored-full : length memory ≡ 772 → 772 ≤ n → Restored memory n (record { held = 0; least = 6 })
+  restored-full size full-up =
+      restored-nothing
+      (dite (decLt 772 (streamLength (take n memory)))
+      (kept-most (take n memory))
+      (λ most. kept-long (take n memory) (omega (arith, ap length (take-all n memory (omega arith))))))
+
+  pub restored-long : n ≤ length memory → streamLength (take n memory) ≤ n → Restored memory n (record { held = 0; least = 6 })
+  restored-long within long = restored-nothing (kept-long (take n memory) (omega (arith, length-take-le n memory within)))
+
+  pub restored-most : 772 < streamLength (take n memory) → Restored memory n (record { held = 0; least = 6 })
+  restored-most far = restored-nothing (kept-most (take n memory) far)
+
+  pub restored : n ≤ length memory → n < streamLength (take n memory) → streamLength (take n memory) ≤ 772 → Restored memory n (record { held = n; least = streamLength (take n memory) })
+  restored within short most =
+      record {
+        holding = record { short = short; announced = omega arith; most = most };
+        bytes = sym (kept-short (take n memory) (omega (arith, length-take-le n memory within)) most);
+      }
+
+-- ── a byte of 0x80 or more
+
+module _ (memory : List ℕ) (byte : ℕ) where
+  pub begins : byte ≡ 0xAA → 0 < length memory → TookByte [] byte (set memory 0 byte) (record { held = 1; least = 6 })
+  begins e some =
+      let one : take 1 (set memory 0 byte) ≡ byte ∷ [] = take-suc-set memory 0 byte some in
+      let six = length-early (byte ∷ []) (omega arith) in
+      unfinished
+      (record { short = omega arith; announced = rw one (omega (arith, six)); most = rw one (omega (arith, six)) })
+      (one ∙ sym (extended-sync [] byte e))
+
+  pub ends : (byte ≡ 0xAA → ⊥) → 0x80 ≤ byte → TookByte [] byte memory (record { held = 0; least = 6 })
+  ends other high = unfinished (holding-nothing memory) (sym (extended-high [] byte other high))
+
+-- whatever is held doesn't matter then
+pub high-alone : (h : List ℕ) (byte : ℕ) (after : List ℕ) (u : Unfinished) → 0x80 ≤ byte → TookByte [] byte after u → TookByte h byte after u
+high-alone h byte after u high (unfinished holding is) = unfinished holding (is ∙ sym (same-high h byte high))
+high-alone h byte after u high (full a b is c) = full a b (is ∙ sym (same-high h byte high)) (ap streamLength (same-high h byte high) ∙ c)
+
+-- ── a low byte
+
+pub low-unused : (memory : List ℕ) (byte : ℕ) (u : Unfinished) → byte < 0x80 → u .held ≡ 0 → Holding memory u → TookByte (take (u .held) memory) byte memory u
+low-unused memory byte u low none holding =
+    unfinished holding (ap (λ (n : ℕ). take n memory) none ∙ sym (extended-none (take (u .held) memory) byte low (rw none refl)))
+
+module _ (memory : List ℕ) (byte : ℕ) (u : Unfinished) (size : length memory ≡ 772) (holding : Holding memory u) (some : 0 < u .held) (low : byte < 0x80) where
+  abbrev n : ℕ
+  n = u .held
+
+  abbrev h : List ℕ
+  h = take n memory
+
+  room : n < 772
+  room = holding-room memory u holding
+
+  there : length h ≡ n
+  there = length-take-le n memory (omega (arith, room))
+
+  longer : extended h byte ≡ h ++ (byte ∷ [])
+  longer = extended-low h byte low (omega (arith, there))
+
+  added : take (n + 1) (set memory n byte) ≡ extended h byte
+  added = ap (λ (k : ℕ). take k (set memory n byte)) (add-one n) ∙ take-suc-set memory n byte (omega (arith, room)) ∙ sym longer
+
+  grows : streamLength h ≤ streamLength (extended h byte)
+  grows = rw longer (length-grows h (byte ∷ []))
+
+  fits : streamLength (extended h byte) ≤ 772
+  fits = rw longer (length-next h byte low (holding .most))
+
+  pub adds-short : n + 1 < u .least → TookByte h byte (set memory n byte) (record { held = n + 1; least = u .least })
+  adds-short short =
+      unfinished (record { short = short; announced = rw added (omega (arith, grows, holding .announced)); most = rw added fits }) added
+
+  pub adds-last : u .least ≤ n + 1 → (total : ℕ) → total ≡ streamLength (take (n + 1) (set memory n byte)) → TookByte h byte (set memory n byte) (record { held = n + 1; least = total })
+  adds-last reached total is =
+      let announced : total ≡ streamLength (extended h byte) = is ∙ ap streamLength added in
+      dite (ℕ-discrete (n + 1) total)
+      (λ e. full e (omega (arith, room)) added (omega (arith, announced)))
+      (λ other. unfinished (record { short = omega (arith, grows, holding .announced, holding .short, announced); announced = omega (arith, is); most = rw added fits }) added)
