@@ -3,7 +3,7 @@ use Prim.Native.Nat.{ℕ, _<_, _≤_}
 use native.Mathlib.Omega.{arith}
 use native.Mathlib.Decide.{decLt, ℕ-discrete}
 use mathlib.Core.Path.{_≡_, refl, sym, ap, ap₂, _∙_}
-use mathlib.Core.Bool.{true, false, true≢false, false≢true}
+use mathlib.Core.Bool.{Bool, true, false, true≢false, false≢true}
 use mathlib.Core.Logic.{_↔_, dite}
 use mathlib.Core.List.{List, [], _∷_, _++_, append-nil}
 use borrow.Author.Tests.{lt-ltb, le-ltb, eq-eqb, ne-eqb}
@@ -29,11 +29,11 @@ use Rattle.receiver.proofs.Outcomes.{uses, last-used, kept-is-short, wh
 
 pub refused : (room : ℕ) → room < 508 → refusal room ≡ 5
 unfolding refusal choose
-refused room short = rw (lt-ltb room 508 short)
+refused room short = ap (λ (short : Bool). choose short 5 0) (lt-ltb room _ (omega arith))
 
 pub accepted : (room : ℕ) → 508 ≤ room → refusal room ≡ 0
 unfolding refusal choose
-accepted room fits = rw (le-ltb room 508 fits)
+accepted room fits = ap (λ (short : Bool). choose short 5 0) (le-ltb room _ (omega arith))
 
 first-number : (ds : List Delivery) → firstOf ds .number ≡ 0
 first-number [] = refl
