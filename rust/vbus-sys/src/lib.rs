@@ -4,13 +4,15 @@
 //! The archive is taken from the folder that the environment variable `VBUS_LIB_DIR` names at
 //! build time, else from `target/staticlib` at the repository's top, where `./build vbus` puts it.
 //!
-//! An answer's `number` is 0, or that of a refusal; every other field of a refused answer is 0.
+//! An answer's `number` is 0, or that of a refusal; every other field of a refused answer is 0, but
+//! a receiver, which comes back as it was.
 //!
 //! # Safety
 //!
 //! A pointer must be valid for as many bytes as the count beside it says (an array's for its
-//! length), for reading where const and for writing where mut. With count 0 it may be anything, null
-//! too. An output must not overlap an input. Nothing else is asked: any number may be passed.
+//! length), for reading where const, for writing where mut, and a receiver's memory for both. With
+//! count 0 it may be anything, null too. What is written must not overlap another buffer of the call.
+//! Nothing else is asked: any number may be passed.
 
 #![no_std]
 #![deny(missing_docs)]
@@ -55,6 +57,34 @@ pub struct Found {
     pub header: Header,
     /// Bytes written to the payload's buffer.
     pub payload_length: usize,
+}
+
+/// A receiver between two calls, with its memory. The default is a fresh one.
+#[repr(C)]
+#[derive(Clone, Copy, PartialEq, Eq, Debug, Default)]
+pub struct Receiver {
+    /// Bytes of an unfinished stream, at the start of the memory.
+    pub held: usize,
+}
+
+/// What a chunk brought.
+#[repr(C)]
+#[derive(Clone, Copy, PartialEq, Eq, Debug, Default)]
+pub struct Received {
+    /// 0, or the number of the refusal.
+    pub number: u32,
+    /// Whether there is a record.
+    pub found: bool,
+    /// Bytes of the chunk that were used.
+    pub used: usize,
+    /// The length of the record's stream.
+    pub length: usize,
+    /// The record but for its payload.
+    pub header: Header,
+    /// Bytes written to the payload's buffer.
+    pub payload_length: usize,
+    /// To hand over with the next call.
+    pub receiver: Receiver,
 }
 
 /// How much was written.
@@ -124,6 +154,19 @@ extern "C" {
         payload: *mut u8,
         room: usize,
     ) -> Found;
+
+    /// Takes in a chunk up to the end of the first record; its payload goes to `payload`.
+    pub fn vbus_receive(
+        receiver: Receiver,
+        memory: *mut [u8; 772],
+        chunk: *const u8,
+        n: usize,
+        payload: *mut u8,
+        room: usize,
+    ) -> Received;
+
+    /// Forgets the unfinished stream.
+    pub fn vbus_reset(receiver: Receiver) -> Receiver;
 
     /// Writes a record's stream.
     pub fn vbus_encode(
