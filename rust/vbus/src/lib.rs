@@ -19,26 +19,37 @@
 //! # }
 //! ```
 //!
+//! What arrives in chunks, such as from a serial port, is read with a [`Receiver`], or with a
+//! `RecordReader` over anything that implements `std::io::Read`.
+//!
 //! The archive is taken from the folder that the environment variable `VBUS_LIB_DIR` names at
 //! build time, else from `target/staticlib` at the repository's top, where `./build vbus` puts it.
 //!
 //! Without the feature `std`, which is on by default, this crate uses `core` alone and has no heap:
-//! [`next`] and [`Found`] do what `records` and `Record` do with it, [`encode`] and [`normalize`]
-//! write to a buffer.
+//! [`next`] and [`Found`] do what `records` and `Record` do with it, a [`Receiver`] gives a
+//! [`Delivered`], [`encode`] and [`normalize`] write to a buffer.
 
 #![cfg_attr(not(feature = "std"), no_std)]
 #![deny(missing_docs)]
 
 mod error;
 mod header;
+mod receiver;
 #[cfg(feature = "std")]
 mod record;
+#[cfg(feature = "std")]
+mod record_reader;
 mod sections;
 
 pub use error::{Error, Fault, Verdict};
 pub use header::{Header, Kind};
 #[cfg(feature = "std")]
+pub use receiver::ReceivedRecords;
+pub use receiver::{Delivered, Received, Receiver};
+#[cfg(feature = "std")]
 pub use record::{encode_to_vec, normalize_to_vec, records, Entry, Record, Records};
+#[cfg(feature = "std")]
+pub use record_reader::RecordReader;
 pub use sections::{section, sections, Elements, Section, Sections};
 
 use core::fmt;
