@@ -10,7 +10,7 @@
 use core::fmt::{self, Write};
 use core::panic::PanicInfo;
 
-use vbus::{Error, Header, Kind};
+use vbus::{Error, Header, Kind, Receiver};
 
 /// A telegram without a frame, behind the start of a stream that was cut off.
 const RECORDING: [u8; 11] = [
@@ -36,6 +36,7 @@ pub extern "C" fn rust_eh_personality() {}
 #[no_mangle]
 pub extern "C" fn main() -> i32 {
     reading();
+    receiving();
     writing();
     septets();
     sections();
@@ -56,6 +57,21 @@ fn reading() {
     let fault: &dyn core::error::Error = &fault;
     let text = "at offset 3: a later byte is 0x80 or more";
     assert_eq!(Line::of(fault).text(), text);
+}
+
+fn receiving() {
+    let mut receiver = Receiver::new();
+    let (first, second) = RECORDING.split_at(5);
+    assert_eq!(receiver.receive(first).record, None);
+    assert_eq!(receiver.held(), &RECORDING[3..5]);
+    let received = receiver.receive(second);
+    assert_eq!(received.used, second.len());
+    let record = received.record.unwrap();
+    assert_eq!(record.length, 8);
+    assert_eq!(Line::of(record).text(), "T 2010 7731 30 01");
+    assert_eq!(receiver.receive(first).record, None);
+    receiver.reset();
+    assert_eq!(receiver.receive(second).record, None);
 }
 
 fn writing() {

@@ -7,11 +7,18 @@
 
 #![forbid(unsafe_code)]
 
+mod receiver;
+
+pub use receiver::{Received, Receiver};
+
 /// Starts every stream, and occurs nowhere else in one.
 const SYNC: u8 = 0xAA;
 
 /// A packet has at most 127 frames of four bytes.
 const MAX_PACKET_PAYLOAD: usize = 4 * 127;
+
+/// No stream is longer than the packet with the most frames.
+const MAX_STREAM: usize = 10 + 6 * 127;
 
 const BAD_VERSION: u32 = 1;
 const BAD_ADDRESS: u32 = 2;

@@ -357,3 +357,133 @@ fn hostile_input_takes_linear_time() {
     assert!(!next(&input, 0, &mut []).found);
     assert_eq!(normalize(&input, &mut []), Written::default());
 }
+
+/// What a receiver makes of the chunks: every record with its place.
+fn receive_all<'c>(
+    receiver: &mut Receiver,
+    chunks: impl Iterator<Item = &'c [u8]>,
+) -> Vec<(usize, Header, Vec<u8>)> {
+    let mut payload = [0; 508];
+    let mut records = Vec::new();
+    let mut total = 0;
+    for mut chunk in chunks {
+        while !chunk.is_empty() {
+            let answer = receiver.receive(chunk, &mut payload);
+            assert_eq!(answer.number, 0);
+            assert!(answer.found || answer.used == chunk.len());
+            total += answer.used;
+            chunk = &chunk[answer.used..];
+            if answer.found {
+                let payload = payload[..answer.payload_length].to_vec();
+                records.push((total - answer.length, answer.header, payload));
+            }
+        }
+    }
+    records
+}
+
+/// The same by `next` over the whole recording.
+fn next_all(input: &[u8]) -> Vec<(usize, Header, Vec<u8>)> {
+    let mut payload = [0; 508];
+    let mut records = Vec::new();
+    let mut start = 0;
+    loop {
+        let found = next(input, start, &mut payload);
+        if !found.found {
+            return records;
+        }
+        let payload = payload[..found.payload_length].to_vec();
+        records.push((found.place, found.header, payload));
+        start = found.place + found.length;
+    }
+}
+
+/// Every sample whole, cut off before its last byte, damaged, and with a high byte in it.
+fn samples_and_damage() -> Vec<u8> {
+    let mut input = vec![0x00, 0xAA];
+    for stream in [&P1[..], &D1, &T1, &T2, &T3] {
+        input.extend(stream);
+        input.extend(&stream[..stream.len() - 1]);
+        input.extend(stream);
+        for change in [0x01, 0x80] {
+            let mut wrong = stream.to_vec();
+            wrong[6] ^= change;
+            input.extend(wrong);
+        }
+        input.extend([0x10, 0xFF]);
+    }
+    input
+}
+
+#[test]
+fn receiving_in_chunks_of_every_length() {
+    let input = samples_and_damage();
+    let expected = next_all(&input);
+    assert_eq!(expected.len(), 10);
+    for length in 1..=input.len() {
+        let received = receive_all(&mut Receiver::new(), input.chunks(length));
+        assert_eq!(received, expected, "in chunks of {length}");
+    }
+}
+
+#[test]
+fn receiving_from_every_byte_after_a_reset() {
+    let input = samples_and_damage();
+    let mut receiver = Receiver::new();
+    for at in 0..=input.len() {
+        receive_all(&mut receiver, input[..at].chunks(7));
+        receiver.reset();
+        let received = receive_all(&mut receiver, input[at..].chunks(7));
+        assert_eq!(received, next_all(&input[at..]), "from byte {at}");
+    }
+}
+
+#[test]
+fn receiving_the_longest_stream() {
+    let header = Header {
+        version: 0x10,
+        destination: 0x0010,
+        source: 0x7E21,
+        command: 0x0100,
+    };
+    let mut stream = [0; 772];
+    assert_eq!(encode(header, &[0xC5; 508], &mut stream).length, 772);
+    for at in 0..stream.len() {
+        let mut receiver = Receiver::new();
+        let mut payload = [0; 508];
+        let first = receiver.receive(&stream[..at], &mut payload);
+        assert_eq!((first.found, first.used), (false, at));
+        let last = receiver.receive(&stream[at..], &mut payload);
+        let expected = Received {
+            number: 0,
+            found: true,
+            used: 772 - at,
+            length: 772,
+            header,
+            payload_length: 508,
+        };
+        assert_eq!(last, expected);
+        assert_eq!(payload, [0xC5; 508]);
+    }
+}
+
+#[test]
+fn receiving_without_room() {
+    let mut receiver = Receiver::new();
+    let mut payload = [0xEE; 509];
+    assert_eq!(receiver.receive(&P1[..15], &mut payload).used, 15);
+    for room in [0, 4, 507] {
+        let refused = receiver.receive(&P1[15..], &mut payload[..room]);
+        let expected = Received {
+            number: 5,
+            ..Received::default()
+        };
+        assert_eq!(refused, expected);
+    }
+    assert_eq!(receiver.receive(&[], &mut payload[..507]).number, 5);
+    let empty = receiver.receive(&[], &mut payload);
+    assert_eq!(empty, Received::default());
+    assert_eq!(payload, [0xEE; 509]);
+    assert!(receiver.receive(&P1[15..], &mut payload[..508]).found);
+    assert_eq!(payload[..5], [0x07, 0x04, 0x0F, 0x00, 0xEE]);
+}
