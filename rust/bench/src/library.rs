@@ -39,3 +39,36 @@ pub fn normalize(input: &[u8], out: &mut [u8]) -> vbus_sys::Written {
     // SAFETY: pointers and counts are those of slices that do not overlap.
     unsafe { vbus_sys::vbus_normalize(input.as_ptr(), input.len(), pointer, room) }
 }
+
+/// A receiver with its memory.
+pub struct Receiver {
+    state: vbus_sys::Receiver,
+    memory: [u8; 772],
+}
+
+impl Receiver {
+    pub fn new() -> Receiver {
+        Receiver {
+            state: vbus_sys::Receiver::default(),
+            memory: [0; 772],
+        }
+    }
+}
+
+#[inline(always)]
+pub fn receive(receiver: &mut Receiver, chunk: &[u8], payload: &mut [u8]) -> vbus_sys::Received {
+    let Receiver { state, memory } = receiver;
+    let (pointer, room) = (payload.as_mut_ptr(), payload.len());
+    // SAFETY: pointers and counts are those of slices and of an array that do not overlap.
+    let answer = unsafe {
+        vbus_sys::vbus_receive(*state, memory, chunk.as_ptr(), chunk.len(), pointer, room)
+    };
+    *state = answer.receiver;
+    answer
+}
+
+#[inline(always)]
+pub fn reset(receiver: &mut Receiver) {
+    // SAFETY: it takes no pointer.
+    receiver.state = unsafe { vbus_sys::vbus_reset(receiver.state) };
+}

@@ -50,6 +50,20 @@ fn ref_checksum(block: &[u8]) -> u8 {
     reference::checksum(block)
 }
 
+#[inline(never)]
+fn ref_receive(
+    receiver: &mut reference::Receiver,
+    chunk: &[u8],
+    payload: &mut [u8],
+) -> reference::Received {
+    receiver.receive(chunk, payload)
+}
+
+#[inline(never)]
+fn ref_reset(receiver: &mut reference::Receiver) {
+    receiver.reset();
+}
+
 // What is timed. Each answers with a number that depends on every answer it got.
 
 /// Validates at one place after the other, and steps over a whole stream.
@@ -89,6 +103,26 @@ macro_rules! next_all {
                 .wrapping_mul(31)
                 .wrapping_add(answer.place ^ answer.payload_length);
             start = answer.place + answer.length;
+        }
+        seen
+    }};
+}
+
+/// Hands every chunk over, again from where a record ended.
+macro_rules! receive_all {
+    ($receive:expr, $reset:expr, $receiver:expr, $chunks:expr, $payload:expr) => {{
+        $reset($receiver);
+        let mut seen = 0usize;
+        for chunk in $chunks {
+            let mut rest: &[u8] = black_box(chunk);
+            while !rest.is_empty() {
+                let answer = $receive($receiver, rest, $payload);
+                black_box(&$payload);
+                seen = seen
+                    .wrapping_mul(31)
+                    .wrapping_add(answer.used ^ answer.length ^ answer.payload_length);
+                rest = &rest[answer.used..];
+            }
         }
         seen
     }};
@@ -211,6 +245,41 @@ fn recording(kind: &str, size: &str, input: &[u8]) {
     );
 }
 
+fn receiver(kind: &str, input: &[u8]) {
+    for size in [1, 16, 256, 65_536] {
+        let mut payload_a = [0u8; 508];
+        let mut payload_b = [0u8; 508];
+        let mut receiver_a = lib::Receiver::new();
+        let mut receiver_b = reference::Receiver::new();
+        let name = format!("receive, {kind}, chunks of {size}");
+        compare(
+            &name,
+            input.len(),
+            || {
+                let chunks = input.chunks(size);
+                receive_all!(
+                    lib::receive,
+                    lib::reset,
+                    &mut receiver_a,
+                    chunks,
+                    &mut payload_a
+                )
+            },
+            || {
+                let chunks = input.chunks(size);
+                receive_all!(
+                    ref_receive,
+                    ref_reset,
+                    &mut receiver_b,
+                    chunks,
+                    &mut payload_b
+                )
+            },
+        );
+        assert!(payload_a == payload_b, "{name}: the last payload differs");
+    }
+}
+
 fn encode(name: &str, version: u8, command: u16, length: usize, random: &mut Random) {
     let mut payload = [0u8; 508];
     random.fill(&mut payload);
@@ -264,5 +333,8 @@ fn main() {
             || usize::from(lib::checksum(black_box(&block))),
             || usize::from(ref_checksum(black_box(&block))),
         );
+    }
+    for (kind, make) in recordings::RECEIVED {
+        receiver(kind, &make(1 << 16, &mut random));
     }
 }

@@ -33,6 +33,14 @@ pub const KINDS: [(&str, Make); 4] = [
     ("all 0xAA", all_sync),
 ];
 
+/// What is handed to a receiver.
+pub const RECEIVED: [(&str, Make); 4] = [
+    ("clean", clean),
+    ("noisy", noisy),
+    ("all 0xAA", all_sync),
+    ("cut packets", cut_packets),
+];
+
 /// A stream as a bus carries them: of ten, six packets, two datagrams and two telegrams. Most
 /// packets have up to 32 frames, every tenth any number.
 fn stream(random: &mut Random, out: &mut [u8; 772]) -> usize {
@@ -104,4 +112,24 @@ fn without_sync(n: usize, random: &mut Random) -> Vec<u8> {
 
 fn all_sync(n: usize, _: &mut Random) -> Vec<u8> {
     vec![0xAA; n]
+}
+
+/// A longest packet without its last byte, again and again: as much as can be held in vain.
+fn cut_packets(n: usize, random: &mut Random) -> Vec<u8> {
+    let mut payload = [0; 508];
+    random.fill(&mut payload);
+    let header = Header {
+        version: 0x10,
+        destination: 0x0010,
+        source: 0x7E21,
+        command: 0x0100,
+    };
+    let mut packet = [0; 772];
+    let length = encode(header, &payload, &mut packet).length;
+    packet[..length - 1]
+        .iter()
+        .copied()
+        .cycle()
+        .take(n)
+        .collect()
 }
