@@ -9,7 +9,7 @@ use reference::Header;
 pub type Class = (&'static str, fn(&mut Checker) -> Checked<()>);
 
 /// The classes of random cases.
-pub const CLASSES: [Class; 15] = [
+pub const CLASSES: [Class; 20] = [
     ("valid", |c| c.random_recording(recordings::recording)),
     ("one bit", |c| c.random_recording(recordings::one_bit)),
     ("one byte", |c| c.random_recording(recordings::one_byte)),
@@ -29,6 +29,11 @@ pub const CLASSES: [Class; 15] = [
     ("broken sections", Checker::random_broken_sections),
     ("septets", Checker::random_septets),
     ("checksum and value", Checker::random_sums),
+    ("receive: cut", Checker::receive_cut),
+    ("receive: any state", Checker::receive_in_any_state),
+    ("receive: resets", Checker::receive_with_resets),
+    ("receive: hostile", Checker::receive_hostile),
+    ("receive: wrapper", Checker::receive_wrapped),
 ];
 
 impl Checker {
@@ -351,6 +356,9 @@ impl Checker {
         self.every_section()?;
         self.every_block_header()?;
         self.every_temperature()?;
+        self.every_held_and_room()?;
+        self.every_announcement()?;
+        self.every_two_cuts()?;
         for length in 0..300 {
             let block = self.rng.bytes(length);
             self.checksum(&block)?;
@@ -625,11 +633,11 @@ impl Checker {
             self.normalize(&input, written.length.saturating_sub(1))?;
             self.count("long input");
         }
-        Ok(())
+        self.receive_long()
     }
 }
 
-fn wrapper(header: Header) -> vbus::Header {
+pub fn wrapper(header: Header) -> vbus::Header {
     vbus::Header {
         version: header.version,
         destination: header.destination,

@@ -1,8 +1,10 @@
 //! Makes one call of the library and of the reference and compares everything they leave.
 
 use crate::library;
+use crate::naive;
+use crate::recordings::{MAX_PAYLOAD, MAX_STREAM};
 use crate::rng::Rng;
-use reference::{Count, Found, Header, Part, Validation, Written};
+use reference::{Count, Found, Header, Part, Received, Validation, Written};
 use std::collections::BTreeMap;
 use std::fmt;
 use std::fs::File;
@@ -55,11 +57,76 @@ impl Output {
         }
     }
 
+    /// An output that holds these bytes.
+    fn holding(rng: &mut Rng, bytes: &[u8]) -> Output {
+        let mut output = Output::new(rng, bytes.len());
+        output.bytes[output.from..output.to].copy_from_slice(bytes);
+        output
+    }
+
     /// Calls `f` with a copy; returns its answer and the whole copy afterwards.
     fn lend<T>(&self, f: impl FnOnce(&mut [u8]) -> T) -> (T, Hex) {
         let mut copy = self.bytes.clone();
         let answer = f(&mut copy[self.from..self.to]);
         (answer, Hex(copy))
+    }
+}
+
+/// A receiver of the library between two calls.
+#[derive(Clone)]
+pub struct State {
+    pub held: usize,
+    pub memory: [u8; MAX_STREAM],
+}
+
+impl State {
+    pub fn fresh() -> State {
+        State {
+            held: 0,
+            memory: [0; MAX_STREAM],
+        }
+    }
+
+    /// The bytes held, as far as the memory has as many.
+    pub fn bytes(&self) -> &[u8] {
+        &self.memory[..self.held.min(MAX_STREAM)]
+    }
+}
+
+/// What a call of a receiver leaves, both buffers with their guards.
+#[derive(PartialEq, Debug)]
+struct Left {
+    received: Received,
+    held: usize,
+    memory: Hex,
+    payload: Hex,
+}
+
+/// A call of a receiver: how many bytes are held, the memory, the chunk and the payload's buffer.
+/// It gives the answer and how many bytes are then held.
+type Receive = fn(usize, &mut [u8], &[u8], &mut [u8]) -> (Received, usize);
+
+impl Left {
+    /// What `receive` leaves of copies of the two outputs.
+    fn by(receive: Receive, held: usize, memory: &Output, chunk: &[u8], payload: &Output) -> Left {
+        let (((received, held), memory), payload) =
+            payload.lend(|payload| memory.lend(|memory| receive(held, memory, chunk, payload)));
+        Left {
+            received,
+            held,
+            memory,
+            payload,
+        }
+    }
+
+    /// The same with 0 in the memory behind the bytes held, which is free unless the call was
+    /// refused.
+    fn without_free(mut self, memory: &Output) -> Left {
+        if self.received.number == 0 {
+            let bytes = self.memory.0[memory.from..memory.to].iter_mut();
+            bytes.skip(self.held).for_each(|byte| *byte = 0);
+        }
+        self
     }
 }
 
@@ -235,6 +302,75 @@ impl Checker {
         self.number(found.number);
         let payload = left[output.from..output.from + found.payload_length].to_vec();
         Ok((found, payload))
+    }
+
+    /// One call of a receiver, which may be in any state, against the naive definition.
+    pub fn receive(
+        &mut self,
+        state: &mut State,
+        chunk: &[u8],
+        room: usize,
+    ) -> Checked<(Received, Vec<u8>)> {
+        let memory = Output::holding(&mut self.rng, &state.memory);
+        let payload = Output::new(&mut self.rng, room);
+        let held = state.held;
+        let mut after = [0; MAX_STREAM];
+        let left = self.same(
+            || {
+                let (memory, chunk) = (hex(&state.memory), hex(chunk));
+                format!("vbus_receive(held = {held}, memory = {memory}, chunk = {chunk}, room = {room})")
+            },
+            || {
+                let left = Left::by(library::receive, held, &memory, chunk, &payload);
+                after.copy_from_slice(&left.memory.0[memory.from..memory.to]);
+                left.without_free(&memory)
+            },
+            || Left::by(naive::receive, held, &memory, chunk, &payload).without_free(&memory),
+        )?;
+        self.number(left.received.number);
+        let record = left.payload.0[payload.from..][..left.received.payload_length].to_vec();
+        self.ends_whole(state.bytes(), chunk, left.received, &record)?;
+        *state = State {
+            held: left.held,
+            memory: after,
+        };
+        Ok((left.received, record))
+    }
+
+    /// A record that was delivered is that of a whole stream, which ends with the last byte used and
+    /// has no bytes but those held and used.
+    fn ends_whole(
+        &mut self,
+        held: &[u8],
+        chunk: &[u8],
+        received: Received,
+        payload: &[u8],
+    ) -> Checked<()> {
+        if !received.found {
+            return Ok(());
+        }
+        let fed = [held, &chunk[..received.used]].concat();
+        let stream = &fed[fed.len().saturating_sub(received.length)..];
+        let mut copy = [0; MAX_PAYLOAD];
+        let found = reference::next(stream, 0, &mut copy);
+        let same = found.found
+            && (found.place, found.length) == (0, stream.len())
+            && received.length == stream.len()
+            && received.header == found.header
+            && copy[..found.payload_length] == *payload;
+        self.holds(same, || {
+            format!("{} ends with the stream of {received:X?}", hex(&fed))
+        })
+    }
+
+    pub fn reset(&mut self, state: &mut State) -> Checked<()> {
+        let held = state.held;
+        state.held = self.same(
+            || format!("vbus_reset(held = {held})"),
+            || library::reset(held),
+            || 0,
+        )?;
+        Ok(())
     }
 
     pub fn encode(

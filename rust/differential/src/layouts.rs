@@ -2,7 +2,7 @@
 
 use crate::check::{Checked, Checker};
 use crate::library;
-use reference::{Count, Found, Header, Part, Septets, Validation, Written};
+use reference::{Count, Found, Header, Part, Received, Septets, Validation, Written};
 use std::mem::{offset_of, size_of, transmute};
 
 const HEADER: Header = Header {
@@ -45,18 +45,32 @@ struct FoundBytes {
     payload_length: usize,
 }
 
+/// `Received` with the flag as the byte that it is.
+#[repr(C)]
+struct ReceivedBytes {
+    number: u32,
+    found: u8,
+    used: usize,
+    length: usize,
+    header: vbus_sys::Header,
+    payload_length: usize,
+    held: usize,
+}
+
 impl Checker {
     pub fn layouts(&mut self) -> Checked<()> {
         self.note(|| "the first layout check".to_string());
         self.sizes()?;
         self.found()?;
+        self.received()?;
         self.small_answers()?;
         self.septets_by_value()?;
         self.encoded()?;
         self.wrong_fields()?;
         self.parts()?;
         self.padding()?;
-        self.flag()
+        self.flag()?;
+        self.received_flag()
     }
 
     fn expect<T: PartialEq + std::fmt::Debug>(
@@ -82,8 +96,11 @@ impl Checker {
             size_of::<vbus_sys::Count>(),
             size_of::<vbus_sys::Part>(),
             size_of::<vbus_sys::Septets>(),
+            size_of::<vbus_sys::Receiver>(),
+            size_of::<vbus_sys::Received>(),
         ];
-        self.expect("sizes on x86-64", sizes, [8, 16, 40, 16, 16, 24, 32])?;
+        let expected = [8, 16, 40, 16, 16, 24, 32, 8, 48];
+        self.expect("sizes on x86-64", sizes, expected)?;
         let offsets = [
             offset_of!(vbus_sys::Found, found),
             offset_of!(vbus_sys::Found, place),
@@ -94,7 +111,17 @@ impl Checker {
             offset_of!(vbus_sys::Septets, length),
             offset_of!(vbus_sys::Septets, septet),
         ];
-        self.expect("offsets on x86-64", offsets, [4, 8, 16, 24, 32, 4, 16, 24])
+        self.expect("offsets on x86-64", offsets, [4, 8, 16, 24, 32, 4, 16, 24])?;
+        let offsets = [
+            offset_of!(vbus_sys::Received, found),
+            offset_of!(vbus_sys::Received, used),
+            offset_of!(vbus_sys::Received, length),
+            offset_of!(vbus_sys::Received, header),
+            offset_of!(vbus_sys::Received, payload_length),
+            offset_of!(vbus_sys::Received, receiver),
+        ];
+        let expected = [4, 8, 16, 24, 32, 40];
+        self.expect("offsets of Received on x86-64", offsets, expected)
     }
 
     fn found(&mut self) -> Checked<()> {
@@ -122,6 +149,46 @@ impl Checker {
             ..Found::default()
         };
         self.expect("vbus_next behind the end", refused, expected)
+    }
+
+    fn received(&mut self) -> Checked<()> {
+        let mut memory = [0xEE; 772];
+        let mut payload = [0xEE; 509];
+        // Three bytes of no stream, and twelve that are held.
+        let chunk = [&[0x01, 0x02, 0x03][..], &STREAM[..12]].concat();
+        let answer = library::receive(0, &mut memory, &chunk, &mut payload);
+        let none = Received {
+            used: 15,
+            ..Received::default()
+        };
+        self.expect("vbus_receive of a part", answer, (none, 12))?;
+        self.expect("vbus_receive's memory", &memory[..12], &STREAM[..12])?;
+        self.expect("vbus_receive's payload", payload, [0xEE; 509])?;
+
+        let refused = Received {
+            number: 5,
+            ..Received::default()
+        };
+        let wide = 0xFEDC_BA98_7654_3210;
+        for held in [12, wide] {
+            let answer = library::receive(held, &mut memory, &STREAM[12..], &mut payload[..507]);
+            self.expect("vbus_receive without room", answer, (refused, held))?;
+        }
+
+        let chunk = [&STREAM[12..], &STREAM[..5]].concat();
+        let answer = library::receive(12, &mut memory, &chunk, &mut payload);
+        let found = Received {
+            number: 0,
+            found: true,
+            used: 10,
+            length: 22,
+            header: HEADER,
+            payload_length: 8,
+        };
+        self.expect("vbus_receive of the rest", answer, (found, 0))?;
+        self.expect("vbus_receive's payload", &payload[..8], &PAYLOAD[..])?;
+        self.expect("the bytes behind it", &payload[8..], &[0xEE; 501][..])?;
+        self.expect("vbus_reset", library::reset(wide), 0)
     }
 
     fn small_answers(&mut self) -> Checked<()> {
@@ -270,6 +337,53 @@ impl Checker {
                 answer.payload_length,
             );
             self.expect("vbus_next, with the flag as a byte", fields, expected)?;
+        }
+        Ok(())
+    }
+
+    fn received_flag(&mut self) -> Checked<()> {
+        type Receive = unsafe extern "C" fn(
+            vbus_sys::Receiver,
+            *mut [u8; 772],
+            *const u8,
+            usize,
+            *mut u8,
+            usize,
+        ) -> vbus_sys::Received;
+        // The receiver's one number is passed in a register, as a usize is.
+        type ReceiveBytes = unsafe extern "C" fn(
+            usize,
+            *mut [u8; 772],
+            *const u8,
+            usize,
+            *mut u8,
+            usize,
+        ) -> ReceivedBytes;
+        // SAFETY: only bool and u8 differ, and a struct of one usize and a usize; both are passed
+        // and returned alike.
+        let receive = unsafe { transmute::<Receive, ReceiveBytes>(vbus_sys::vbus_receive) };
+        let mut memory = [0; 772];
+        memory[..12].copy_from_slice(&STREAM[..12]);
+        let rest = &STREAM[12..];
+        let mut out = [0; 508];
+        for (n, room, expected) in [
+            (9, 507, (5, 0, 0, 0, 0, 0, 12)),
+            (0, 508, (0, 0, 0, 0, 0, 0, 12)),
+            (10, 508, (0, 1, 10, 22, 0x1A2B, 8, 0)),
+        ] {
+            let (chunk, to) = (rest.as_ptr(), out.as_mut_ptr());
+            // SAFETY: pointers and counts are those of arrays; `n` and `room` are at most their lengths.
+            let answer = unsafe { receive(12, &mut memory, chunk, n, to, room) };
+            let fields = (
+                answer.number,
+                answer.found,
+                answer.used,
+                answer.length,
+                answer.header.command,
+                answer.payload_length,
+                answer.held,
+            );
+            self.expect("vbus_receive, with the flag as a byte", fields, expected)?;
         }
         Ok(())
     }

@@ -1,6 +1,6 @@
 //! The archive's exports with the reference's types, so that answers can be compared.
 
-use reference::{Count, Found, Header, Part, Septets, Validation, Written};
+use reference::{Count, Found, Header, Part, Received, Septets, Validation, Written};
 
 /// An answer as the reference's struct of that name. Every field of both is named, so that none
 /// can be left out of a comparison.
@@ -63,6 +63,45 @@ pub fn next(input: &[u8], start: usize, payload: &mut [u8]) -> Found {
         header: as_reference!(header => Header { version, destination, source, command }),
         payload_length,
     }
+}
+
+/// A receiver that holds `held` bytes of its memory, which has 772; also how many it then holds.
+pub fn receive(
+    held: usize,
+    memory: &mut [u8],
+    chunk: &[u8],
+    payload: &mut [u8],
+) -> (Received, usize) {
+    let receiver = vbus_sys::Receiver { held };
+    let memory: &mut [u8; 772] = memory.try_into().expect("the memory has 772 bytes");
+    let (from, n) = (chunk.as_ptr(), chunk.len());
+    let (to, room) = (payload.as_mut_ptr(), payload.len());
+    // SAFETY: pointers and counts are those of slices and of an array that do not overlap.
+    let answer = unsafe { vbus_sys::vbus_receive(receiver, memory, from, n, to, room) };
+    let vbus_sys::Received {
+        number,
+        found,
+        used,
+        length,
+        header,
+        payload_length,
+        receiver: vbus_sys::Receiver { held },
+    } = answer;
+    let received = Received {
+        number,
+        found,
+        used,
+        length,
+        header: as_reference!(header => Header { version, destination, source, command }),
+        payload_length,
+    };
+    (received, held)
+}
+
+/// How many bytes a receiver holds after a reset.
+pub fn reset(held: usize) -> usize {
+    // SAFETY: it takes no pointer.
+    unsafe { vbus_sys::vbus_reset(vbus_sys::Receiver { held }) }.held
 }
 
 pub fn encode(head: Header, payload: &[u8], out: &mut [u8]) -> Written {

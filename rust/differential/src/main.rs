@@ -11,6 +11,7 @@ mod check;
 mod layouts;
 mod library;
 mod naive;
+mod receiver;
 mod recordings;
 mod rng;
 
@@ -161,8 +162,8 @@ fn compare(
     complete(checker).map_err(|failure| ("counts", failure))
 }
 
-/// Every refusal and every verdict occurred, and the naive reading found records, or the run has
-/// shown less than it claims.
+/// Every refusal and every verdict occurred, and the naive reading and every class of receivers
+/// found records, or the run has shown less than it claims.
 fn complete(checker: &mut Checker) -> Checked<()> {
     let errors = Error::ALL.iter().map(|error| error.number() as usize);
     for number in errors.chain([0]) {
@@ -174,7 +175,8 @@ fn complete(checker: &mut Checker) -> Checked<()> {
         let count = checker.verdicts[number];
         checker.holds(count > 0, || format!("the verdict V{number} occurs"))?;
     }
-    for class in ["naive recordings", "naive records"] {
+    let naive = ["naive recordings", "naive records"];
+    for class in naive.into_iter().chain(receiver::RECORDS) {
         let some = checker.cases.get(class).is_some_and(|count| *count > 0);
         checker.holds(some, || format!("there are {class}"))?;
     }

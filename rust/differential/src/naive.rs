@@ -1,9 +1,9 @@
 //! A recording's records by the rule itself: every place is tried, and every record is written
 //! anew. The reference, like the library, goes on at a fault and copies whole streams; here neither
-//! shortcut is taken.
+//! shortcut is taken. And a receiver by its rule, byte after byte, in any state.
 
-use crate::recordings;
-use reference::Header;
+use crate::recordings::{self, MAX_PAYLOAD, MAX_STREAM};
+use reference::{Header, Received};
 
 /// The longest recording that is read this way; the work grows with the square of its length.
 pub const MOST: usize = 600;
@@ -66,4 +66,104 @@ pub fn normalized(records: &[Delivered]) -> Vec<u8> {
         .iter()
         .flat_map(|record| recordings::encoded(record.header, &record.payload))
         .collect()
+}
+
+/// A call of a receiver that holds `held` bytes of its memory; also how many it then holds.
+pub fn receive(
+    held: usize,
+    memory: &mut [u8],
+    chunk: &[u8],
+    payload: &mut [u8],
+) -> (Received, usize) {
+    let mut received = Received::default();
+    if payload.len() < MAX_PAYLOAD {
+        received.number = 5;
+        return (received, held);
+    }
+    let mut stream = Vec::new();
+    if held < MAX_STREAM {
+        stream = kept(memory[..held].to_vec());
+    }
+    for (i, &byte) in chunk.iter().enumerate() {
+        match byte {
+            0xAA => stream = vec![0xAA],
+            0x80.. => stream = Vec::new(),
+            _ if stream.is_empty() => {}
+            _ => stream.push(byte),
+        }
+        if whole(&stream) {
+            return (delivered(&stream, i + 1, payload), 0);
+        }
+        stream = kept(stream);
+    }
+    memory[..stream.len()].copy_from_slice(&stream);
+    received.used = chunk.len();
+    (received, stream.len())
+}
+
+/// The bytes, if more are announced and a stream can have as many; else none.
+fn kept(stream: Vec<u8>) -> Vec<u8> {
+    let length = announced(&stream);
+    if stream.len() < length && length <= MAX_STREAM {
+        stream
+    } else {
+        Vec::new()
+    }
+}
+
+/// How many bytes the stream has, as far as those that are there tell.
+fn announced(stream: &[u8]) -> usize {
+    let byte = |at: usize| stream.get(at).map_or(0, |&byte| usize::from(byte));
+    if stream.len() < 6 {
+        return 6;
+    }
+    match byte(5) {
+        0x10 => 10 + 6 * byte(8),
+        0x20 => 16,
+        0x30 | 0x31 => 8 + 9 * (byte(6) / 32 % 4),
+        _ => 6,
+    }
+}
+
+/// Whether the bytes are a whole stream, with nothing behind it.
+fn whole(stream: &[u8]) -> bool {
+    if stream.len() < 6 || stream.len() != announced(stream) || stream[0] != 0xAA {
+        return false;
+    }
+    let low = stream[1..].iter().all(|&byte| byte < 0x80);
+    low && match stream[5] {
+        0x10 => summed(&stream[1..10]) && framed(&stream[10..], 4),
+        0x20 => summed(&stream[1..16]) && stream[14] < 1 << 6,
+        0x30 | 0x31 => summed(&stream[1..8]) && framed(&stream[8..], 7),
+        _ => false,
+    }
+}
+
+/// Whether the bytes are frames of `width` payload bytes, their septet and the checksum.
+fn framed(bytes: &[u8], width: usize) -> bool {
+    let mut frames = bytes.chunks(width + 2);
+    frames.all(|frame| summed(frame) && frame[width] >> width == 0)
+}
+
+/// Whether the last byte is the checksum of those before it.
+fn summed(block: &[u8]) -> bool {
+    let (last, before) = block.split_last().expect("there is a checksum");
+    let sum: usize = before.iter().map(|&byte| usize::from(byte)).sum();
+    // 0x7F less the sum, modulo 128.
+    (usize::from(*last) + sum) % 128 == 0x7F
+}
+
+/// The answer for the record of a whole stream that ends with byte number `used` of the chunk.
+fn delivered(stream: &[u8], used: usize, payload: &mut [u8]) -> Received {
+    let record = read(0, stream);
+    let payload_length = record.payload.len();
+    payload[..payload_length].copy_from_slice(&record.payload);
+    Received {
+        number: 0,
+        found: true,
+        used,
+        length: stream.len(),
+        header: record.header,
+        payload_length,
+    }
 }
