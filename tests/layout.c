@@ -58,6 +58,16 @@ static int nothing_found(vbus_found a, uint32_t number) {
     const vbus_header none = {0, 0, 0, 0};
     return found_is(a, number, 0, 0, 0, none, 0);
 }
+static int received_is(vbus_received a, size_t used, size_t length, vbus_header h, size_t payload_length) {
+    return a.number == 0 && (int)a.found == 1 && a.used == used && a.length == length &&
+           a.header.version == h.version && a.header.destination == h.destination && a.header.source == h.source &&
+           a.header.command == h.command && a.payload_length == payload_length && a.receiver.held == 0;
+}
+static int nothing_received(vbus_received a, uint32_t number, size_t used, size_t held) {
+    return a.number == number && (int)a.found == 0 && a.used == used && a.length == 0 && a.header.version == 0 &&
+           a.header.destination == 0 && a.header.source == 0 && a.header.command == 0 && a.payload_length == 0 &&
+           a.receiver.held == held;
+}
 static int written_is(vbus_written a, uint32_t number, size_t length) { return a.number == number && a.length == length; }
 static int count_is(vbus_count a, uint32_t number, size_t count) { return a.number == number && a.count == count; }
 static int part_is(vbus_part a, uint32_t number, size_t start, size_t length) {
@@ -117,6 +127,11 @@ static void layouts(void) {
     CHECK(sizeof(vbus_found) == 40 && offsetof(vbus_found, number) == 0 && offsetof(vbus_found, found) == 4 &&
           offsetof(vbus_found, place) == 8 && offsetof(vbus_found, length) == 16 && offsetof(vbus_found, header) == 24 &&
           offsetof(vbus_found, payload_length) == 32);
+    CHECK(sizeof(vbus_receiver) == 8 && offsetof(vbus_receiver, held) == 0 && WIDTH(vbus_receiver, held) == 8);
+    CHECK(sizeof(vbus_received) == 48 && offsetof(vbus_received, number) == 0 && offsetof(vbus_received, found) == 4 &&
+          offsetof(vbus_received, used) == 8 && offsetof(vbus_received, length) == 16 &&
+          offsetof(vbus_received, header) == 24 && offsetof(vbus_received, payload_length) == 32 &&
+          offsetof(vbus_received, receiver) == 40);
     CHECK(sizeof(vbus_written) == 16 && offsetof(vbus_written, number) == 0 && offsetof(vbus_written, length) == 8);
     CHECK(sizeof(vbus_count) == 16 && offsetof(vbus_count, number) == 0 && offsetof(vbus_count, count) == 8);
     CHECK(sizeof(vbus_part) == 24 && offsetof(vbus_part, number) == 0 && offsetof(vbus_part, start) == 8 &&
@@ -124,7 +139,8 @@ static void layouts(void) {
     CHECK(sizeof(vbus_septets) == 32 && offsetof(vbus_septets, number) == 0 && offsetof(vbus_septets, bytes) == 4 &&
           offsetof(vbus_septets, length) == 16 && offsetof(vbus_septets, septet) == 24);
     CHECK(sizeof(bool) == 1 && WIDTH(vbus_validation, verdict) == 1 && WIDTH(vbus_validation, offset) == 8 &&
-          WIDTH(vbus_found, number) == 4 && WIDTH(vbus_found, payload_length) == 8 && WIDTH(vbus_written, number) == 4 &&
+          WIDTH(vbus_found, number) == 4 && WIDTH(vbus_found, payload_length) == 8 && WIDTH(vbus_received, number) == 4 &&
+          WIDTH(vbus_received, found) == 1 && WIDTH(vbus_received, used) == 8 && WIDTH(vbus_written, number) == 4 &&
           WIDTH(vbus_written, length) == 8 && WIDTH(vbus_count, number) == 4 && WIDTH(vbus_count, count) == 8 &&
           WIDTH(vbus_part, number) == 4 && WIDTH(vbus_part, length) == 8 && WIDTH(vbus_septets, number) == 4 &&
           WIDTH(vbus_septets, septet) == 1);
@@ -154,23 +170,27 @@ static void checksum_and_septets(void) {
     CHECK(septets_are(vbus_inject(low7, 4, 0x10), VBUS_WRONG_SEPTET_BLOCK, zero, 0, 0));
 }
 
-/* A packet of 5 frames: every field differs from every other, and so do the bytes within each. */
-static const uint8_t payload20[20] = {0x01, 0x82, 0x03, 0x84, 0x85, 0x06, 0x87, 0x08, 0x89, 0x8A,
-                                      0x8B, 0x8C, 0x0D, 0x0E, 0x0F, 0x10, 0x91, 0x12, 0x13, 0x94};
-static size_t packet_of(uint8_t *out) {
-    const uint8_t head[9] = {0xAA, 0x34, 0x12, 0x71, 0x56, 0x10, 0x4C, 0x2B, 5};
+static void packet_with(const uint8_t *payload, size_t frames, uint8_t *out) {
+    const uint8_t head[9] = {0xAA, 0x34, 0x12, 0x71, 0x56, 0x10, 0x4C, 0x2B, (uint8_t)frames};
     memcpy(out, head, 9);
     out[9] = sum(out + 1, 8);
-    for (size_t frame = 0; frame < 5; frame++) {
+    for (size_t frame = 0; frame < frames; frame++) {
         uint8_t *at = out + 10 + 6 * frame;
         at[4] = 0;
         for (size_t i = 0; i < 4; i++) {
-            uint8_t byte = payload20[4 * frame + i];
+            uint8_t byte = payload[4 * frame + i];
             at[i] = byte & 0x7F;
             at[4] = (uint8_t)(at[4] | (byte >> 7 << i));
         }
         at[5] = sum(at, 5);
     }
+}
+
+/* A packet of 5 frames: every field differs from every other, and so do the bytes within each. */
+static const uint8_t payload20[20] = {0x01, 0x82, 0x03, 0x84, 0x85, 0x06, 0x87, 0x08, 0x89, 0x8A,
+                                      0x8B, 0x8C, 0x0D, 0x0E, 0x0F, 0x10, 0x91, 0x12, 0x13, 0x94};
+static size_t packet_of(uint8_t *out) {
+    packet_with(payload20, 5, out);
     return 40;
 }
 
@@ -237,6 +257,63 @@ static void finding(void) {
     CHECK(nothing_found(vbus_next(input, MIXED, 0, payload, 19), VBUS_OUTPUT_TOO_SHORT));
     CHECK(nothing_found(vbus_next(input, MIXED, MIXED + 1, payload, 0), VBUS_START_PAST_END));
     CHECK(painted(payload, 0, sizeof payload));
+}
+
+static const vbus_receiver fresh = {0};
+/* a number that no 32 bits hold */
+static const vbus_receiver no_receiver = {0xFEDCBA9876543210};
+
+/* the recording in two chunks, the packet cut after 25 bytes; the bytes behind the memory and the payload stay */
+static void receiving(void) {
+    uint8_t input[MIXED], memory[VBUS_MAX_STREAM + 8], before[VBUS_MAX_STREAM], payload[VBUS_MAX_PAYLOAD + 8];
+    mix(input);
+    paint(memory, sizeof memory);
+    paint(payload, sizeof payload);
+    vbus_received answer = vbus_receive(fresh, memory, input, 28, payload, VBUS_MAX_PAYLOAD);
+    CHECK(nothing_received(answer, 0, 28, 25) && memcmp(memory, input + 3, 25) == 0);
+    CHECK(painted(payload, 0, sizeof payload));
+    memcpy(before, memory, sizeof before);
+    const vbus_received refused = vbus_receive(answer.receiver, memory, input + 28, MIXED - 28, payload, 507);
+    CHECK(nothing_received(refused, VBUS_OUTPUT_TOO_SHORT, 0, 25) && memcmp(memory, before, sizeof before) == 0);
+    CHECK(painted(payload, 0, sizeof payload));
+    answer = vbus_receive(refused.receiver, memory, input + 28, MIXED - 28, payload, VBUS_MAX_PAYLOAD);
+    CHECK(received_is(answer, 15, 40, packet_header(), 20));
+    CHECK(memcmp(payload, payload20, 20) == 0 && painted(payload, 20, sizeof payload));
+    paint(payload, sizeof payload);
+    answer = vbus_receive(answer.receiver, memory, input + 43, MIXED - 43, payload, sizeof payload);
+    CHECK(received_is(answer, 17, 17, telegram_header(), 7));
+    CHECK(memcmp(payload, telegram_payload, 7) == 0 && painted(payload, 7, sizeof payload));
+    paint(payload, sizeof payload);
+    answer = vbus_receive(answer.receiver, memory, input + 60, MIXED - 60, payload, sizeof payload);
+    CHECK(received_is(answer, 8, 8, clearance_header(), 0) && painted(payload, 0, sizeof payload));
+    answer = vbus_receive(answer.receiver, memory, input + 68, MIXED - 68, payload, sizeof payload);
+    CHECK(received_is(answer, 16, 16, datagram_header(), 6));
+    CHECK(painted(memory, VBUS_MAX_STREAM, sizeof memory));
+}
+
+static void receiving_the_longest(void) {
+    uint8_t stream[VBUS_MAX_STREAM], memory[VBUS_MAX_STREAM], payload[VBUS_MAX_PAYLOAD], expected[VBUS_MAX_PAYLOAD];
+    paint(expected, sizeof expected);
+    packet_with(expected, 127, stream);
+    vbus_received answer = vbus_receive(fresh, memory, stream, 771, payload, sizeof payload);
+    CHECK(nothing_received(answer, 0, 771, 771) && memcmp(memory, stream, 771) == 0);
+    answer = vbus_receive(answer.receiver, memory, stream + 771, 1, payload, sizeof payload);
+    CHECK(received_is(answer, 1, 772, packet_header(), 508) && memcmp(payload, expected, sizeof expected) == 0);
+}
+
+static void resetting(void) {
+    uint8_t memory[VBUS_MAX_STREAM], payload[VBUS_MAX_PAYLOAD];
+    vbus_received answer = vbus_receive(fresh, memory, clearance, 7, payload, sizeof payload);
+    CHECK(nothing_received(answer, 0, 7, 7));
+    const vbus_receiver reset = vbus_reset(answer.receiver);
+    CHECK(reset.held == 0);
+    CHECK(nothing_received(vbus_receive(reset, memory, clearance + 7, 1, payload, sizeof payload), 0, 1, 0));
+    CHECK(received_is(vbus_receive(reset, memory, clearance, 8, payload, sizeof payload), 8, 8, clearance_header(), 0));
+    /* a receiver that no call gave: as it was after a refusal, else as one that holds nothing */
+    answer = vbus_receive(no_receiver, memory, clearance, 8, payload, 507);
+    CHECK(nothing_received(answer, VBUS_OUTPUT_TOO_SHORT, 0, no_receiver.held));
+    CHECK(nothing_received(vbus_receive(no_receiver, memory, clearance, 7, payload, sizeof payload), 0, 7, 7));
+    CHECK(vbus_reset(no_receiver).held == 0);
 }
 
 static void normalizing(void) {
@@ -379,7 +456,7 @@ static void refused_blocks(void) {
 /* NULL is never read or written where its count is 0: a read would end the program. */
 static void null_with_zero(void) {
     const vbus_header block = block_header();
-    uint8_t out[16];
+    uint8_t out[16], memory[VBUS_MAX_STREAM], payload[VBUS_MAX_PAYLOAD];
     CHECK(vbus_checksum(NULL, 0) == 0x7F);
     CHECK(validation_is(vbus_validate(NULL, 0), VBUS_VERDICT_ENDED, 0));
     CHECK(nothing_found(vbus_next(NULL, 0, 0, NULL, 0), 0));
@@ -387,6 +464,11 @@ static void null_with_zero(void) {
     CHECK(found_is(vbus_next(clearance, 8, 0, NULL, 0), 0, 1, 0, 8, clearance_header(), 0));
     CHECK(nothing_found(vbus_next(datagram, 16, 0, NULL, 0), VBUS_OUTPUT_TOO_SHORT));
     CHECK(nothing_found(vbus_next(telegram, 17, 0, NULL, 0), VBUS_OUTPUT_TOO_SHORT));
+    memcpy(memory, clearance, 7);
+    const vbus_receiver seven = {7};
+    CHECK(nothing_received(vbus_receive(seven, memory, NULL, 0, payload, sizeof payload), 0, 0, 7));
+    CHECK(nothing_received(vbus_receive(seven, memory, NULL, 0, NULL, 0), VBUS_OUTPUT_TOO_SHORT, 0, 7));
+    CHECK(nothing_received(vbus_receive(seven, memory, clearance + 7, 1, NULL, 0), VBUS_OUTPUT_TOO_SHORT, 0, 7));
     CHECK(written_is(vbus_encode(block, NULL, 0, out, 16), 0, 10));
     CHECK(memcmp(out, "\xAA\x15\x00\x21\x7E\x10\x00\x01\x00\x3A", 10) == 0);
     CHECK(written_is(vbus_encode(clearance_header(), NULL, 0, out, 16), 0, 8));
@@ -409,6 +491,9 @@ int main(void) {
     checksum_and_septets();
     verdicts();
     finding();
+    receiving();
+    receiving_the_longest();
+    resetting();
     normalizing();
     writing();
     refused_writing();

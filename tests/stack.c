@@ -20,12 +20,13 @@
 
 /* the four section functions last: they have a limit of their own */
 enum {
-    CHECKSUM, EXTRACT, INJECT, VALIDATE, NEXT, ENCODE, NORMALIZE, VALUE, TEMPERATURE,
+    CHECKSUM, EXTRACT, INJECT, VALIDATE, NEXT, RECEIVE, RESET, ENCODE, NORMALIZE, VALUE, TEMPERATURE,
     SECTION_COUNT, SECTION, ELEMENT_COUNT, ELEMENT, EXPORTS
 };
 static const char *const names[EXPORTS] = {
-    "vbus_checksum", "vbus_extract", "vbus_inject", "vbus_validate", "vbus_next", "vbus_encode", "vbus_normalize",
-    "vbus_value", "vbus_temperature", "vbus_section_count", "vbus_section", "vbus_element_count", "vbus_element"};
+    "vbus_checksum", "vbus_extract", "vbus_inject", "vbus_validate", "vbus_next", "vbus_receive", "vbus_reset",
+    "vbus_encode", "vbus_normalize", "vbus_value", "vbus_temperature", "vbus_section_count", "vbus_section",
+    "vbus_element_count", "vbus_element"};
 
 /* the arguments of the call under measurement */
 static struct {
@@ -34,9 +35,13 @@ static struct {
     size_t n, start, section, element, length;
     uint8_t septet;
     vbus_header header;
+    vbus_receiver receiver;
     uint8_t *out;
     size_t room;
 } call;
+
+/* A receiver's memory, and what it holds before each call: a call may leave it otherwise. */
+static uint8_t memory[VBUS_MAX_STREAM], held[VBUS_MAX_STREAM];
 
 /* Empty functions, each of the type of an export: what calling costs by itself. */
 #define EMPTY __attribute__((noinline, noclone))
@@ -46,6 +51,8 @@ static EMPTY vbus_septets no_extract(UNUSED const uint8_t *a, UNUSED size_t b) {
 static EMPTY vbus_septets no_inject(UNUSED const uint8_t *a, UNUSED size_t b, UNUSED uint8_t c) { static vbus_septets z; __asm__(""); return z; }
 static EMPTY vbus_validation no_validate(UNUSED const uint8_t *a, UNUSED size_t b) { static vbus_validation z; __asm__(""); return z; }
 static EMPTY vbus_found no_next(UNUSED const uint8_t *a, UNUSED size_t b, UNUSED size_t c, UNUSED uint8_t *d, UNUSED size_t e) { static vbus_found z; __asm__(""); return z; }
+static EMPTY vbus_received no_receive(UNUSED vbus_receiver a, UNUSED uint8_t *b, UNUSED const uint8_t *c, UNUSED size_t d, UNUSED uint8_t *e, UNUSED size_t f) { static vbus_received z; __asm__(""); return z; }
+static EMPTY vbus_receiver no_reset(UNUSED vbus_receiver a) { static vbus_receiver z; __asm__(""); return z; }
 static EMPTY vbus_written no_encode(UNUSED vbus_header a, UNUSED const uint8_t *b, UNUSED size_t c, UNUSED uint8_t *d, UNUSED size_t e) { static vbus_written z; __asm__(""); return z; }
 static EMPTY vbus_written no_normalize(UNUSED const uint8_t *a, UNUSED size_t b, UNUSED uint8_t *c, UNUSED size_t d) { static vbus_written z; __asm__(""); return z; }
 static EMPTY int32_t no_value(UNUSED const uint8_t *a) { __asm__(""); return 0; }
@@ -61,6 +68,8 @@ static vbus_septets (*volatile f_extract)(const uint8_t *, size_t);
 static vbus_septets (*volatile f_inject)(const uint8_t *, size_t, uint8_t);
 static vbus_validation (*volatile f_validate)(const uint8_t *, size_t);
 static vbus_found (*volatile f_next)(const uint8_t *, size_t, size_t, uint8_t *, size_t);
+static vbus_received (*volatile f_receive)(vbus_receiver, uint8_t *, const uint8_t *, size_t, uint8_t *, size_t);
+static vbus_receiver (*volatile f_reset)(vbus_receiver);
 static vbus_written (*volatile f_encode)(vbus_header, const uint8_t *, size_t, uint8_t *, size_t);
 static vbus_written (*volatile f_normalize)(const uint8_t *, size_t, uint8_t *, size_t);
 static int32_t (*volatile f_value)(const uint8_t *);
@@ -76,6 +85,8 @@ static void choose(int empty) {
     f_inject = empty ? no_inject : vbus_inject;
     f_validate = empty ? no_validate : vbus_validate;
     f_next = empty ? no_next : vbus_next;
+    f_receive = empty ? no_receive : vbus_receive;
+    f_reset = empty ? no_reset : vbus_reset;
     f_encode = empty ? no_encode : vbus_encode;
     f_normalize = empty ? no_normalize : vbus_normalize;
     f_value = empty ? no_value : vbus_value;
@@ -91,6 +102,8 @@ static union {
     vbus_septets septets;
     vbus_validation validation;
     vbus_found found;
+    vbus_received received;
+    vbus_receiver receiver;
     vbus_written written;
     int32_t value;
     int16_t temperature;
@@ -112,6 +125,8 @@ static void run(void) {
     case INJECT: answer.septets = f_inject(call.input, call.length, call.septet); break;
     case VALIDATE: answer.validation = f_validate(call.input, call.n); break;
     case NEXT: answer.found = f_next(call.input, call.n, call.start, call.out, call.room); break;
+    case RECEIVE: answer.received = f_receive(call.receiver, memory, call.input, call.n, call.out, call.room); break;
+    case RESET: answer.receiver = f_reset(call.receiver); break;
     case ENCODE: answer.written = f_encode(call.header, call.input, call.n, call.out, call.room); break;
     case NORMALIZE: answer.written = f_normalize(call.input, call.n, call.out, call.room); break;
     case VALUE: answer.value = f_value(call.input); break;
@@ -129,6 +144,7 @@ static void run(void) {
 
 static size_t depth(int empty) {
     memset(stack, pattern, sizeof stack);
+    memcpy(memory, held, sizeof memory);
     choose(empty);
     if (getcontext(&there) != 0) abort();
     there.uc_stack.ss_sp = stack;
@@ -163,8 +179,47 @@ static vbus_header header_of(uint8_t version, uint16_t command) {
     return made;
 }
 
-/* validate, next and normalize of what stands in the input */
+/* receive: a chunk of n bytes for a receiver that holds that many of `held`, with room for a payload and without */
+static void chunk(size_t holds, const uint8_t *bytes, size_t n) {
+    call.receiver.held = holds;
+    call.input = bytes;
+    call.n = n;
+    call.out = out;
+    call.room = VBUS_MAX_PAYLOAD;
+    measure(RECEIVE);
+    call.room = VBUS_MAX_PAYLOAD - 1;
+    measure(RECEIVE);
+    measure(RESET);
+}
+
+/* every record of what stands in the input, each from where the one before it ended */
+static void received(size_t n) {
+    static uint8_t own[VBUS_MAX_STREAM];
+    vbus_receiver fresh = {0};
+    for (size_t at = 0; at < n;) {
+        chunk(0, input + at, n - at);
+        at += vbus_receive(fresh, own, input + at, n - at, out, sizeof out).used;
+    }
+}
+
+/* The stream in `stream`, held up to a byte: the rest completes it, is broken at its end, and is cut off by a new one.
+ * And a state that no calls lead to: more is held than there is. */
+static void unfinished(size_t size, size_t at) {
+    memcpy(held, stream, size);
+    memcpy(input, stream, size);
+    chunk(at, input + at, size - at);
+    chunk(at, input + at, size - at - 1);
+    input[size - 1] ^= 1;
+    chunk(at, input + at, size - at);
+    memcpy(input + at, stream, size);
+    chunk(at, input + at, size);
+    chunk(VBUS_MAX_STREAM, stream, size);
+    chunk((size_t)-1, stream, size);
+}
+
+/* validate, next, receive and normalize of what stands in the input */
 static void recording(size_t n) {
+    chunk(0, input, n);
     call.input = input;
     call.n = n;
     call.out = out;
@@ -249,9 +304,10 @@ static void whole_streams(const uint8_t *payload) {
         n += vbus_encode(header_of(VBUS_TELEGRAM, (uint16_t)frames), payload, frames / 32 * 7, input + n, 35).length;
     }
     recording(n);
+    received(n);
 }
 
-/* the stream in `stream`, at every step bytes: the byte there damaged in two ways, and the stream cut off there */
+/* the stream in `stream`, at every step bytes: the byte there damaged in two ways, the stream cut off there, and held */
 static void damaged(size_t size, size_t step) {
     for (size_t at = 0; at < size; at += step) {
         memcpy(input, stream, size);
@@ -261,7 +317,9 @@ static void damaged(size_t size, size_t step) {
         recording(size);
         memcpy(input, stream, size);
         recording(at);
+        unfinished(size, at);
     }
+    unfinished(size, size - 1);
 }
 
 static void damaged_streams(const uint8_t *payload) {
@@ -269,6 +327,7 @@ static void damaged_streams(const uint8_t *payload) {
         vbus_header header = header_of(VBUS_PACKET, 0x0300);
         damaged(vbus_encode(header, payload, 4 * frames, stream, sizeof stream).length, frames == 0 ? 1 : 11);
     }
+    damaged(vbus_encode(header_of(VBUS_DATAGRAM, 0x0300), payload, 6, stream, sizeof stream).length, 1);
     for (unsigned frames = 0; frames <= 3; frames++) {
         vbus_header header = header_of(VBUS_TELEGRAM_31, (uint16_t)(32 * frames));
         damaged(vbus_encode(header, payload, 7 * frames, stream, sizeof stream).length, 1);
@@ -284,6 +343,7 @@ static void stored(const char *name) {
     size_t size = fread(input, 1, sizeof input, file);
     fclose(file);
     recording(size);
+    received(size);
 }
 
 static void chains(void) {
