@@ -80,11 +80,11 @@ pub struct State {
 }
 
 impl State {
-    pub fn fresh() -> State {
-        State {
-            held: 0,
-            memory: [0; MAX_STREAM],
-        }
+    /// A fresh receiver; what its memory holds doesn't matter.
+    pub fn fresh(rng: &mut Rng) -> State {
+        let mut memory = [0; MAX_STREAM];
+        memory.fill_with(|| rng.byte());
+        State { held: 0, memory }
     }
 
     /// The bytes held, as far as the memory has as many.

@@ -86,9 +86,9 @@ struct Pair {
 }
 
 impl Pair {
-    fn fresh() -> Pair {
+    fn fresh(rng: &mut Rng) -> Pair {
         Pair {
-            library: State::fresh(),
+            library: State::fresh(rng),
             reference: reference::Receiver::new(),
             used: 0,
             records: Vec::new(),
@@ -147,7 +147,7 @@ impl Checker {
         chunks: &[&[u8]],
         resets: usize,
     ) -> Checked<()> {
-        let mut pair = Pair::fresh();
+        let mut pair = Pair::fresh(&mut self.rng);
         let mut expected = Vec::new();
         let mut from = 0;
         for chunk in chunks {
@@ -221,10 +221,7 @@ impl Checker {
 
 /// A state, also such as no calls lead to, and a chunk that often completes what it holds.
 fn any_state(rng: &mut Rng) -> (State, Vec<u8>) {
-    let mut state = State::fresh();
-    for byte in &mut state.memory {
-        *byte = rng.byte();
-    }
+    let mut state = State::fresh(rng);
     let mut stream = match rng.below(4) {
         0 => recordings::longest(rng),
         1 => any_recording(rng),
@@ -313,7 +310,7 @@ impl Checker {
         Ok(())
     }
 
-    /// A short recording cut at any two places, and every byte of a stream held in vain.
+    /// A short recording cut at any two places; and, byte by byte, with a high byte at any place.
     pub fn every_two_cuts(&mut self) -> Checked<()> {
         let mut input = vec![0x15, 0xAA, 0x10];
         for (version, command, length) in [(0x10, 0x0300, 4), (0x20, 0x0100, 6), (0x31, 0x29, 7)] {
@@ -332,7 +329,8 @@ impl Checker {
                 self.fed(FIXED, &input, &chunks, 0)?;
             }
             let broken = [&input[..first], &[0x80], &input[first..]].concat();
-            self.fed(FIXED, &broken, &[&broken[..first], &broken[first..]], 0)?;
+            let chunks: Vec<&[u8]> = broken.chunks(1).collect();
+            self.fed(FIXED, &broken, &chunks, 0)?;
         }
         Ok(())
     }
@@ -408,7 +406,7 @@ impl Checker {
         let input = any_recording(&mut self.rng);
         let chunks = chunks(&mut self.rng, &input);
         self.note(|| format!("vbus::Receiver on {}", hex(&input)));
-        let mut state = State::fresh();
+        let mut state = State::fresh(&mut self.rng);
         let mut by_calls = vbus::Receiver::new();
         let mut by_records = vbus::Receiver::new();
         for chunk in chunks {
