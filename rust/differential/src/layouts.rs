@@ -57,6 +57,18 @@ struct ReceivedBytes {
     held: usize,
 }
 
+type Receive = unsafe extern "C" fn(
+    vbus_sys::Receiver,
+    *mut [u8; 772],
+    *const u8,
+    usize,
+    *mut u8,
+    usize,
+) -> vbus_sys::Received;
+
+type ReceiveBytes =
+    unsafe extern "C" fn(usize, *mut [u8; 772], *const u8, usize, *mut u8, usize) -> ReceivedBytes;
+
 impl Checker {
     pub fn layouts(&mut self) -> Checked<()> {
         self.note(|| "the first layout check".to_string());
@@ -342,25 +354,8 @@ impl Checker {
     }
 
     fn received_flag(&mut self) -> Checked<()> {
-        type Receive = unsafe extern "C" fn(
-            vbus_sys::Receiver,
-            *mut [u8; 772],
-            *const u8,
-            usize,
-            *mut u8,
-            usize,
-        ) -> vbus_sys::Received;
-        // The receiver's one number is passed in a register, as a usize is.
-        type ReceiveBytes = unsafe extern "C" fn(
-            usize,
-            *mut [u8; 772],
-            *const u8,
-            usize,
-            *mut u8,
-            usize,
-        ) -> ReceivedBytes;
-        // SAFETY: only bool and u8 differ, and a struct of one usize and a usize; both are passed
-        // and returned alike.
+        // SAFETY: a bool and a u8 have the same size, and a struct of one usize is passed in one
+        // register, as a usize is.
         let receive = unsafe { transmute::<Receive, ReceiveBytes>(vbus_sys::vbus_receive) };
         let mut memory = [0; 772];
         memory[..12].copy_from_slice(&STREAM[..12]);
