@@ -335,24 +335,28 @@ impl Checker {
         Ok(())
     }
 
-    /// Long hostile inputs, whole and byte by byte: constant work for a byte answers in time.
+    /// Long hostile inputs before a whole stream, in one chunk and byte by byte: constant work for a
+    /// byte answers in time.
     pub fn receive_long(&mut self) -> Checked<()> {
         let mut packet = recordings::longest(&mut self.rng);
         packet.pop();
         let announcing = packet[..10].to_vec();
+        let stream = recordings::stream(&mut self.rng);
         for part in [
             vec![0xAA],
+            vec![0x00],
             vec![0xAA, 0x10],
             announcing,
             packet,
-            recordings::stream(&mut self.rng),
+            stream.clone(),
         ] {
-            let input: Vec<u8> = part.iter().copied().cycle().take(1 << 18).collect();
-            self.fed(FIXED, &input, &[&input], 0)?;
-            let input = &input[..1 << 14];
-            let chunks: Vec<&[u8]> = input.chunks(1).collect();
-            self.fed(FIXED, input, &chunks, 0)?;
-            self.count("long input");
+            for (length, chunk) in [(1 << 18, 1 << 20), (1 << 14, 1)] {
+                let mut input: Vec<u8> = part.iter().copied().cycle().take(length).collect();
+                input.extend(&stream);
+                let chunks: Vec<&[u8]> = input.chunks(chunk).collect();
+                self.fed(FIXED, &input, &chunks, 0)?;
+                self.count("long input");
+            }
         }
         Ok(())
     }
