@@ -33,7 +33,8 @@ use crate::{check, parameter, value, Error, Header, MAX_PAYLOAD, MAX_STREAM};
 /// assert_eq!((received.used, received.record), (1, None));
 /// ```
 ///
-/// It has no heap: it owns its buffers, some 1,300 bytes, and may be a `static`.
+/// It needs no heap: it owns its buffers, some 1,300 bytes, and [`Receiver::new`] is `const`, so that
+/// it can be part of a `static`.
 #[derive(Clone)]
 pub struct Receiver {
     state: vbus_sys::Receiver,
