@@ -398,12 +398,16 @@ fn next_all(input: &[u8]) -> Vec<(usize, Header, Vec<u8>)> {
     }
 }
 
-/// Every sample whole, cut off before its last byte, damaged, and with a high byte in it.
+/// Every sample and a packet without a frame: whole, with its last byte twice, cut off before it,
+/// damaged, and with a high byte in it.
 fn samples_and_damage() -> Vec<u8> {
+    let short = [0xAA, 0x11, 0x44, 0x10, 0x66, 0x10, 0x00, 0x02, 0x00, 0x22];
     let mut input = vec![0x00, 0xAA];
-    for stream in [&P1[..], &D1, &T1, &T2, &T3] {
+    for stream in [&short[..], &P1, &D1, &T1, &T2, &T3] {
+        let last = stream.len() - 1;
         input.extend(stream);
-        input.extend(&stream[..stream.len() - 1]);
+        input.push(stream[last]);
+        input.extend(&stream[..last]);
         input.extend(stream);
         for change in [0x01, 0x80] {
             let mut wrong = stream.to_vec();
@@ -419,7 +423,7 @@ fn samples_and_damage() -> Vec<u8> {
 fn receiving_in_chunks_of_every_length() {
     let input = samples_and_damage();
     let expected = next_all(&input);
-    assert_eq!(expected.len(), 10);
+    assert_eq!(expected.len(), 12);
     for length in 1..=input.len() {
         let received = receive_all(&mut Receiver::new(), input.chunks(length));
         assert_eq!(received, expected, "in chunks of {length}");
