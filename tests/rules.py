@@ -156,6 +156,29 @@ def normalize(s, room):
     return (5, b"") if room < len(out) else (0, out)
 
 
+# ── a receiver, fed a recording until it is used up
+
+
+def announced(s):
+    """the length of the stream that s begins with, or the least that it can have, as far as its bytes tell"""
+    if len(s) < 6:
+        return 6
+    if s[5] == PACKET:
+        return 10 + 6 * s[8] if len(s) > 8 else 10
+    if s[5] in TELEGRAMS:
+        return 8 + 9 * (s[6] >> 5 & 3) if len(s) > 6 else 8
+    return 16 if s[5] == DATAGRAM else 6
+
+
+def received(s):
+    """of each delivered record how many bytes were used by then, its stream's length and itself; and how many bytes are held at last"""
+    lengths = {k: validate(s[k:])[1] for k in places(s)}
+    last = max((k for k in range(len(s)) if s[k] >= 0x80), default=-1)
+    rest = s[last:] if last >= 0 and s[last] == 0xAA else b""
+    held = len(rest) if len(rest) < announced(rest) else 0
+    return [(k + n, n, decode(s[k:])) for k, n in lengths.items()], held
+
+
 # ── sections of a block packet
 
 ELEMENT_SIZE = {0x01: 2, 0x05: 4, 0x08: 1, 0x0A: 8, 0x0B: 4, 0x0C: 4, 0x0D: 4}

@@ -108,6 +108,15 @@ def next_(name, text, start, room, place=None):
     ask("n", name, s, number, *fields, "kept", first=start, second=room)
 
 
+def receive(name, text, held, *ends):
+    """byte after byte to a fresh receiver: the bytes held at last, and how many are used with each record"""
+    s = bytes.fromhex(text)
+    records, kept = rules.received(s)
+    assert (tuple(used for used, _, _ in records), kept) == (ends, held), (name, records, kept)
+    fields = [field for used, length, record in records for field in (used, length, *told(record))]
+    ask("w", name, s, *fields, "held", held)
+
+
 def normalize(name, text, room, number, same_as=""):
     """`same_as` is what must be written"""
     s = bytes.fromhex(text)
@@ -274,6 +283,21 @@ normalize("normalize-damaged", damaged, 800, 0, P1 + T2)
 normalize("normalize-room-33", damaged, 33, 0, P1 + T2)
 normalize("normalize-P1-D1-T2", P1 + D1 + T2, 49, 0, P1 + D1 + T2)
 normalize("normalize-P1-cut", P1[:-3], 800, 0, "")
+
+receive("receive-empty", "", 0)
+receive("receive-P1", P1, 0, 16)
+receive("receive-P1-cut", P1[:-3], 15)
+receive("receive-AA-P1", "AA" + P1, 0, 17)
+receive("receive-P1-D1-T2", P1 + D1 + T2, 0, 16, 32, 49)
+receive("receive-damaged", damaged, 0, 16, 46)
+receive("receive-T1-77", T1[:-2] + "77" + T1, 0, 16)
+receive("receive-high", "AA 10 20 FF 31 77 30 01 76", 0)
+receive("receive-version-11", "AA 10 20 31 77 11", 0)
+receive("receive-nine", P1[:26], 9)
+longest = rules.written(packet(PATTERN[:508])).hex()
+receive("receive-772", longest, 0, 772)
+receive("receive-771", longest[:-2], 771)
+receive("receive-771-twice", longest[:-2] + longest, 0, 1543)
 
 E48 = (  # document 000's block packet
     "02 0A 00 00 03 00 08 00 00 00 00 00 01 0B 00 00 00 00 00 00 04 08 00 00"

@@ -20,6 +20,9 @@ use Rattle.recording.specs.Next.{nextOf, payloadAfter}
 use Rattle.recording.specs.Normalize.{normalizingOf}
 use Rattle.recording.specs.Normalize as Normals
 use Rattle.recording.specs.declared.Found.{Found}
+use Rattle.receiver.specs.Receive.{receivedOf}
+use Rattle.receiver.specs.Receive as Receptions
+use Rattle.receiver.specs.declared.Received.{Received}
 use Rattle.sections.specs.Answer.{sectionCount, sectionFound, sectionShown, elementCount, elementFound, elementShown}
 use Rattle.sections.specs.Element.{temperatureOf}
 use Rattle.sections.specs.declared.Count.{Count}
@@ -36,6 +39,7 @@ pub data Question : Type 0 where
   encode : Record → ℕ → Question
   value : List ℕ → Question
   next : List ℕ → ℕ → ℕ → Question
+  receive : ℕ → List ℕ → List ℕ → ℕ → Question
   normalize : List ℕ → ℕ → Question
   sections : Header → List ℕ → Question
   section : Header → List ℕ → ℕ → Question
@@ -72,6 +76,9 @@ writtenTold a = a .number ∷ a .length ∷ []
 abbrev nextTold : Found → List ℕ
 nextTold a = a .number ∷ boolTold (a .found) ∷ a .place ∷ a .length ∷ (headerTold (a .header) ++ (a .«payload_length» ∷ []))
 
+abbrev receivedTold : Received → List ℕ
+receivedTold a = a .number ∷ boolTold (a .found) ∷ a .used ∷ a .length ∷ (headerTold (a .header) ++ (a .«payload_length» ∷ a .receiver .held ∷ []))
+
 abbrev countTold : Count → List ℕ
 countTold c = c .number ∷ c .count ∷ []
 
@@ -88,6 +95,8 @@ answer (carry r) = unwritable r ∷ []
 answer (encode r room) = writtenTold (encodingOf r room) ++ Encodings.outputAfter r (untouched room)
 answer (value payload) = signedTold (valueOf payload)
 answer (next s start room) = nextTold (nextOf s start room) ++ payloadAfter s start (untouched room)
+answer (receive held memory chunk room) =
+    receivedTold (receivedOf (record { held = held }) memory chunk room) ++ Receptions.outputAfter (record { held = held }) memory chunk (untouched room)
 answer (normalize s room) = writtenTold (normalizingOf s room) ++ Normals.outputAfter s (untouched room)
 answer (sections h payload) = countTold (sectionCount h payload)
 answer (section h payload k) = partTold (sectionFound h payload k) ++ sectionShown h payload k

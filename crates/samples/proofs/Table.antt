@@ -3,7 +3,7 @@
 use Prim.Native.Nat.{ℕ}
 use mathlib.Core.Path.{_≡_, refl}
 use mathlib.Core.List.{List, [], _∷_, _++_, map, flatten}
-use lib.ListN.{take, replicate}
+use lib.ListN.{take, drop, replicate}
 use Rattle.basics.specs.Choice.{choose}
 use Rattle.basics.specs.Output.{roomRefusal}
 use Rattle.basics.specs.Words.{signed}
@@ -19,10 +19,14 @@ use Rattle.record.specs.Encode as Encodings
 use Rattle.recording.specs.Recording.{deliveriesFrom}
 use Rattle.recording.specs.Next as Nexts
 use Rattle.recording.specs.Normalize.{streams}
+use Rattle.recording.specs.Decode.{beginning}
+use Rattle.receiver.specs.Holding.{extended, kept}
+use Rattle.receiver.specs.Receive.{outcomeOf}
+use Rattle.receiver.specs.Receive as Receptions
 use Rattle.sections.specs.Section.{cut, someShort}
 use Rattle.sections.specs.Element.{elementSize}
 use Rattle.sections.specs.Answer.{notBlock}
-use Rattle.samples.proofs.Questions.{Question, checksum, extract, inject, validate, read, carry, encode, value, next, normalize, sections, section, elements, element, temperature, verdict, untouched, answer}
+use Rattle.samples.proofs.Questions.{Question, checksum, extract, inject, validate, read, carry, encode, value, next, receive, normalize, sections, section, elements, element, temperature, verdict, untouched, answer}
 use Rattle.samples.proofs.Samples.{bytes, recorded, p1, d1, t1, t2, twoFrames, sixTopBits, threeFrames, threeFramesPayload, damaged, packet, datagram, telegram, blockHeader, example, eachType}
 
 -- a question and the answer that the papers give
@@ -156,6 +160,32 @@ recordings =
     ∷ (normalize [] 2, 0 ∷ 0 ∷ untouched 2)
     ∷ []
 
+-- nothing received: the number, how many bytes were used, and how many are held
+abbrev noneReceived : ℕ → ℕ → ℕ → ℕ → List ℕ
+noneReceived number used held room = number ∷ 0 ∷ used ∷ (replicate 6 0 ++ (held ∷ untouched room))
+
+-- P1 received, with so many bytes used
+abbrev p1Received : ℕ → List ℕ
+p1Received used = 0 ∷ 1 ∷ used ∷ 16 ∷ 0x10 ∷ 0x4411 ∷ 0x6610 ∷ 0x0200 ∷ 4 ∷ 0 ∷ (bytes 4 0x07040F00 ++ untouched 504)
+
+-- of a state the number of bytes held, and the memory
+abbrev receptions : List Row
+receptions =
+    (receive 0 [] p1 508, p1Received 16)
+    ∷ (receive 0 [] (take 7 p1) 508, noneReceived 0 7 7 508)
+    ∷ (receive 7 p1 (drop 7 p1 ++ d1) 508, p1Received 9)
+    ∷ (receive 7 p1 (drop 7 p1) 507, noneReceived 5 0 7 507)
+    ∷ (receive 7 p1 [] 508, noneReceived 0 0 7 508)
+    ∷ (receive 7 p1 p1 508, p1Received 16)
+    ∷ (receive 7 p1 (0x80 ∷ drop 7 p1) 508, noneReceived 0 10 0 508)
+    ∷ (receive 15 p1 (0x64 ∷ p1) 508, p1Received 17)
+    ∷ (receive 16 p1 (0x00 ∷ []) 508, noneReceived 0 1 0 508)
+    ∷ (receive 800 (p1 ++ replicate 756 0) [] 508, noneReceived 0 0 0 508)
+    ∷ (receive 9 (bytes 9 0xAA114410_66100002_7F) [] 508, noneReceived 0 0 9 508)
+    ∷ (receive 9 (bytes 9 0xAA114410_66100002_80) [] 508, noneReceived 0 0 0 508)
+    ∷ (receive 5 (bytes 5 0xAA102031_77) (0x11 ∷ []) 508, noneReceived 0 1 0 508)
+    ∷ []
+
 abbrev blockSections : List Row
 blockSections =
     (sections blockHeader example, 0 ∷ 4 ∷ [])
@@ -214,8 +244,8 @@ verdictNumbers =
     ∷ []
 
 abbrev table : List Row
-table = starred ++ (septets ++ (verdicts ++ (records ++ (recordings ++ (blockSections ++ verdictNumbers)))))
+table = starred ++ (septets ++ (verdicts ++ (records ++ (recordings ++ (receptions ++ (blockSections ++ verdictNumbers))))))
 
 samples : map (λ (row : Row). answer (row .0)) table ≡ map (λ (row : Row). row .1) table
-unfolding choose signed checksumFrom septetOf lowBits withTopBits anyHigh kindOf headerLength frameWidth frameCount streamLength payloadLength frameRule headerRule ruleAt breach faultAt validationFrom recordOf unframed commandIn payloadIn framed framesOf kindBytes streamAs streamOf unwritable Encodings.refusal deliveriesFrom Nexts.refusal streams roomRefusal cut someShort elementSize notBlock flatten
+unfolding choose signed checksumFrom septetOf lowBits withTopBits anyHigh kindOf headerLength frameWidth frameCount streamLength payloadLength frameRule headerRule ruleAt breach faultAt validationFrom recordOf unframed commandIn payloadIn framed framesOf kindBytes streamAs streamOf unwritable Encodings.refusal deliveriesFrom Nexts.refusal streams roomRefusal beginning extended kept outcomeOf Receptions.refusal cut someShort elementSize notBlock flatten
 samples = refl

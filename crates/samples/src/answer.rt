@@ -98,6 +98,32 @@ pub fn next(recording: &[u8], start: usize, room: usize) {
     kept(&out, answer.payload_length);
 }
 
+// The record that the byte with this number completed: the number, its stream's length, and itself.
+fn received(answer: receiver::Received, number: usize, payload: &[u8]) {
+    if answer.found {
+        field::number(number as u64);
+        field::number(answer.length as u64);
+        field::record(answer.header, part::first(payload, answer.payload_length));
+    }
+}
+
+// A recording, byte after byte, to a fresh receiver with whatever in its memory; and how many bytes it holds at last.
+pub fn receive(recording: &[u8]) {
+    let mut state = receiver::Receiver { held: 0 };
+    let mut memory = [0xEEu8; 772];
+    let mut used = 0;
+    while used < recording.len() {
+        let byte = [recording[used]];
+        let mut out = [0u8; 508];
+        let answer = receiver::receive(state, &mut memory, &byte, &mut out);
+        used += 1;
+        received(answer, used, &out);
+        state = answer.receiver;
+    }
+    field::say(b"held");
+    field::number(state.held as u64);
+}
+
 pub fn normalize(recording: &[u8], room: usize) {
     let mut out = UNTOUCHED;
     let answer = recording::normalize(recording, part::first_mut(&mut out, room));

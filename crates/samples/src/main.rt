@@ -34,6 +34,7 @@ fn fields(question: &[u8], bytes: &[u8]) {
         b'r' => answer::row(header, bytes),
         b'i' => field::signed(record::value(part::six(bytes))),
         b'n' => answer::next(bytes, n, m),
+        b'w' => answer::receive(bytes),
         b'z' => answer::normalize(bytes, n),
         b's' => answer::count(sections::section_count(header, bytes)),
         b'S' => answer::place(sections::find_section(header, bytes, n), bytes),
