@@ -95,6 +95,18 @@ module _ (receiver : Receiver) (memory chunk out : List ℕ) where
         ),
       )
 
+-- a refused call uses nothing and changes nothing
+pub refused-nothing : {receiver : Receiver} {memory chunk out : List ℕ} {answer : Received} {out' memory' : List ℕ}
+    → Called receiver memory chunk out answer out' memory' → answer .number ≡ 5
+    → (answer ≡ answerOf (without 5) 0 receiver) × (out' ≡ out) × (memory' ≡ memory)
+refused-nothing {receiver} {memory} {chunk} {out} called five =
+    let short = refused-exactly receiver memory chunk (length out) .0 (sym (ap (λ (r : Received). r .number) (called .answers)) ∙ five) in
+    let number = refused (length out) short in (
+      called .answers ∙ answers-refused receiver memory chunk (length out) short,
+      called .output ∙ when-refused (refusal (length out)) _ _ (λ zero. omega (arith, number)),
+      called .remembers .refused (omega (arith, number)),
+    )
+
 -- ── a call that isn't refused
 
 -- a whole stream that ends with the last byte used, among the bytes held before and used, and its record as the answer and the output tell it
