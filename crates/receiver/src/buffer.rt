@@ -58,9 +58,15 @@ fn add(memory: &mut [u8], u: Unfinished, byte: u8) -> Unfinished
     memory[held] = byte;
     let count = held + 1;
     if count < u.least {
-        return Unfinished { held: count, least: u.least };
+        return Unfinished {
+            held: count,
+            least: u.least,
+        };
     }
-    Unfinished { held: count, least: announced(&memory[0..count]) }
+    Unfinished {
+        held: count,
+        least: announced(&memory[0..count]),
+    }
 }
 
 // Takes in one byte.

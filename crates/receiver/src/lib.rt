@@ -11,8 +11,8 @@ ghost use Rattle.receiver.specs.Holding.{kept};
 mod buffer;
 mod length;
 
-use recording::Found;
 use record::Header;
+use recording::Found;
 
 // The state between calls; zeroed, it is fresh. The bytes of the unfinished stream stand in the memory that is lent with it.
 #[repr(C)]
@@ -34,9 +34,29 @@ pub struct Received {
     pub receiver: Receiver,
 }
 
-// An answer with a record or none.
-fn answer(found: Found, used: usize, receiver: Receiver) -> Received
-    ensures { λ r. ⌜ r ≡ answerOf found used receiver ⌝ }
+// An answer without a record: a refusal's number or 0.
+fn without(number: u32, used: usize, receiver: Receiver) -> Received
+    ensures { λ r. ⌜ r ≡ answerOf (Rattle.recording.specs.Next.without number) used receiver ⌝ }
+{
+    Received {
+        number,
+        found: false,
+        used,
+        length: 0,
+        header: Header {
+            version: 0,
+            destination: 0,
+            source: 0,
+            command: 0,
+        },
+        payload_length: 0,
+        receiver,
+    }
+}
+
+// An answer with the record that was found; nothing is held then.
+fn delivered(found: Found, used: usize) -> Received
+    ensures { λ r. ⌜ r ≡ answerOf found used (record { held = 0 }) ⌝ }
 {
     let header = found.header;
     Received {
@@ -46,7 +66,7 @@ fn answer(found: Found, used: usize, receiver: Receiver) -> Received
         length: found.length,
         header,
         payload_length: found.payload_length,
-        receiver,
+        receiver: Receiver { held: 0 },
     }
 }
 
@@ -66,12 +86,12 @@ fn feed(memory: &mut [u8], held: usize, chunk: &[u8], out: &mut [u8]) -> Receive
         if count == state.least {
             let found = recording::decode(&memory[0..count], out);
             if found.found {
-                return answer(found, used, Receiver { held: 0 });
+                return delivered(found, used);
             }
             state = buffer::nothing();
         }
     }
-    answer(recording::without(0), used, Receiver { held: state.held })
+    without(0, used, Receiver { held: state.held })
 }
 
 // Takes in the bytes of a chunk up to the last one of the first stream that they complete, or all of them. The record's payload then
@@ -82,7 +102,7 @@ pub fn receive(receiver: Receiver, memory: &mut [u8; 772], chunk: &[u8], out: &m
     ensures { λ r. ⌜ Remembered receiver (now (memory .entry)) (now (chunk .entry)) (length (now (out .entry))) (now (memory .exit)) ⌝ }
 {
     if out.len() < 508 {
-        return answer(recording::without(5), 0, receiver);
+        return without(5, 0, receiver);
     }
     feed(memory, receiver.held, chunk, out)
 }

@@ -30,7 +30,7 @@ pub struct Found {
 }
 
 // No record, with a refusal's number or 0.
-pub fn without(number: u32) -> Found
+fn without(number: u32) -> Found
     ensures { λ r. ⌜ r ≡ Rattle.recording.specs.Next.without number ⌝ }
 {
     Found {

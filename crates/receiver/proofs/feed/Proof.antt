@@ -48,8 +48,8 @@ part-decode-end c =
 decode-requires : tie.Need-decode-requires Inv-loop μ-loop
 decode-requires c κs = search needs
 
-answer-requires : tie.Need-answer-requires Inv-loop μ-loop
-answer-requires c κs = search needs
+delivered-requires : tie.Need-delivered-requires Inv-loop μ-loop
+delivered-requires c κs = search needs
 
 same-length : tie.Need-same-length Inv-loop μ-loop
 same-length c =
@@ -64,7 +64,7 @@ returns c =
     let loop = c .before .before .before .before .before .before .before .before .before .before .before .before .before .before .before .before .loop in
     let took = c .before .before .before .before .before .before .before .before .before .before .before .before .take-byte in
     let decode = c .before .before .before .before .decode in
-    rw (c .answer .ensures)
+    rw (c .delivered .ensures)
     (feed-found (loop .inv) (omega (arith, c .before .before .before .before .before .before .before .before .before .before .before .before .before .before .before .loop-test)) (took .last .0) (omega (arith, took .kept .0, loop .inv .size)) (took .result) (took .ensures) (c .before .before .before .before .before .before .before .before .if1 .taken) (omega (arith, c .before .before .before .before .before .before .before .before .before .before .before .before .before .before .before .before .before .before .before .before .before .before .pre .1, ap length (loop .inv .output))) (decode .result) (decode .last .1 .0) (rw sub-zero at (decode .ensures .0)) (rw sub-zero at (decode .ensures .1)) (c .before .if2 .taken))
 
 nothing-requires : tie.Need-nothing-requires Inv-loop μ-loop
@@ -93,9 +93,6 @@ loop-again-2 c =
 without-requires : tie.Need-without-requires Inv-loop μ-loop
 without-requires c κs = search needs
 
-answer-requires-2 : tie.Need-answer-requires-2 Inv-loop μ-loop
-answer-requires-2 c κs = search needs
-
 same-length-3 : tie.Need-same-length-3 Inv-loop μ-loop
 same-length-3 c = search needs
 
@@ -104,8 +101,8 @@ same-length-4 c = search needs
 
 returns-2 : tie.Need-returns-2 Inv-loop μ-loop
 returns-2 c =
-    let loop = c .before .before .before .loop in
-    rw (c .answer2 .ensures, c .before .without .ensures) (feed-ends (loop .inv) (omega (arith, loop .inv .within)))
+    let loop = c .before .before .loop in
+    rw (c .without .ensures) (feed-ends (loop .inv) (omega (arith, loop .inv .within)))
 
 pub feed-spec : {M : Type 1} → statement M
 feed-spec =
@@ -122,7 +119,7 @@ feed-spec =
     part-decode-start
     part-decode-end
     decode-requires
-    answer-requires
+    delivered-requires
     same-length
     same-length-2
     returns
@@ -132,7 +129,6 @@ feed-spec =
     loop-less-2
     loop-again-2
     without-requires
-    answer-requires-2
     same-length-3
     same-length-4
     returns-2)

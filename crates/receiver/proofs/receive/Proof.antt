@@ -9,13 +9,10 @@ use Rattle.receiver.proofs.receive.Tie as tie
 without-requires : tie.Need-without-requires
 without-requires c κs = search needs
 
-answer-requires : tie.Need-answer-requires
-answer-requires c κs = search needs
-
 returns : tie.Need-returns
 returns c =
-    let args = c .before .before .before .before .before .args in
-    rw (c .answer .ensures, c .before .without .ensures) (refused-all (args .receiver) (args .memory .now) (args .chunk .now) (args .out .now) (omega arith))
+    let args = c .before .before .before .before .args in
+    rw (c .without .ensures) (refused-all (args .receiver) (args .memory .now) (args .chunk .now) (args .out .now) (omega arith))
 
 feed-requires : tie.Need-feed-requires
 feed-requires c κs = search needs
@@ -32,4 +29,4 @@ returns-2 c =
 pub receive-spec : {M : Type 1} → statement M
 receive-spec =
     tie.close
-    (tie.spec without-requires answer-requires returns feed-requires same-length returns-2)
+    (tie.spec without-requires returns feed-requires same-length returns-2)
