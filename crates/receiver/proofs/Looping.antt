@@ -1,9 +1,9 @@
 -- Laws of the loop over a chunk: what is to come of the bytes from here on is what was to come of all of them.
-use Prim.Native.Nat.{ℕ, suc, _+_, _<_, _≤_}
+use Prim.Native.Nat.{ℕ, _+_, _<_, _≤_}
 use native.Mathlib.Omega.{arith}
 use native.Mathlib.Nat.{zero-add}
 use native.Mathlib.Numerals.{add-one}
-use mathlib.Core.Path.{_≡_, refl, sym, ap, ap₂, _∙_}
+use mathlib.Core.Path.{_≡_, refl, sym, ap, _∙_}
 use mathlib.Core.Bool.{true, false, true≢false}
 use mathlib.Core.Logic.{_↔_}
 use mathlib.Core.List.{List, [], _∷_}
@@ -13,8 +13,7 @@ use Rattle.basics.specs.Bytes.{over}
 use Rattle.stream.specs.Layout.{streamLength}
 use Rattle.stream.proofs.Reached.{whole-clean}
 use Rattle.recording.specs.Decode.{beginning, decodedOf, decodedAfter}
-use Rattle.recording.specs.Next.{without, firstOf, payloadOf}
-use Rattle.recording.specs.Recording.{Delivery}
+use Rattle.recording.specs.Next.{without, payloadOf}
 use Rattle.recording.specs.declared.Found.{Found}
 use Rattle.recording.proofs.Decoding.{beginning-none, decoded-room, output-room, output-none, decode-exactly}
 use Rattle.recording.proofs.Deliveries.{Whole}

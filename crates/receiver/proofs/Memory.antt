@@ -3,17 +3,17 @@ use Prim.Native.Nat.{ℕ, _+_, _<_, _≤_}
 use native.Mathlib.Omega.{arith}
 use native.Mathlib.Decide.{decLt, ℕ-discrete}
 use native.Mathlib.Numerals.{add-one}
-use mathlib.Core.Path.{_≡_, refl, sym, ap, subst⁻¹, _∙_}
+use mathlib.Core.Path.{_≡_, refl, sym, ap, _∙_}
 use mathlib.Core.Logic.{dite}
 use mathlib.Core.List.{List, [], _∷_, _++_}
-use lib.ListN.{length, take, set, length-append}
+use lib.ListN.{length, take, set}
 use lib.Seq.{take-suc-set, take-all, length-take-le}
 use Rattle.stream.specs.Layout.{streamLength}
 use Rattle.stream.proofs.Lengths.{length-early, length-grows, length-next}
 use Rattle.receiver.specs.Holding.{extended, kept}
 use Rattle.receiver.specs.Stage.{Holding, Restored, TookByte, unfinished, full}
 use Rattle.receiver.specs.declared.buffer.Unfinished.{Unfinished}
-use Rattle.receiver.proofs.Extending.{extended-sync, extended-high, extended-none, extended-low, same-high, kept-short, kept-long, kept-most, kept-early}
+use Rattle.receiver.proofs.Extending.{extended-sync, extended-high, extended-none, extended-low, same-high, kept-short, kept-long, kept-most}
 
 pub holding-nothing : (memory : List ℕ) → Holding memory (record { held = 0; least = 6 })
 holding-nothing memory =

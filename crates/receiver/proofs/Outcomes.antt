@@ -1,9 +1,8 @@
 -- Laws of what a chunk brings: what is left to be delivered, how many bytes are used, and that what is delivered ends with the last of them.
 use Prim.Native.Nat.{ℕ, suc, _+_, _-_, _<_, _≤_}
 use native.Mathlib.Omega.{arith}
-use native.Mathlib.Nat.{add-zero}
 use native.Mathlib.Decide.{decLt, ℕ-discrete}
-use mathlib.Core.Path.{_≡_, refl, sym, ap, ap₂, subst, _∙_}
+use mathlib.Core.Path.{_≡_, refl, sym, ap, _∙_}
 use mathlib.Core.Logic.{dite}
 use mathlib.Core.List.{List, [], _∷_, _++_, append-assoc, append-nil}
 use borrow.Author.Tests.{eq-eqb, ne-eqb}
@@ -18,7 +17,7 @@ use Rattle.recording.proofs.Deliveries.{Whole}
 use Rattle.receiver.specs.Holding.{extended, kept}
 use Rattle.receiver.specs.Receive.{Outcome, oneMore, outcomeOf}
 use Rattle.receiver.proofs.Extending.{extended-by, kept-by, kept-long}
-use Rattle.receiver.proofs.Steps.{Held, none, Onward, onward, few-whole, Completes, completes}
+use Rattle.receiver.proofs.Steps.{Held, none, onward, few-whole, completes}
 
 -- ── one byte
 

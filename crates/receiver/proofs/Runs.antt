@@ -1,11 +1,11 @@
 -- Runs of calls: however a recording is cut, they deliver just what it delivers.
-use Prim.Native.Nat.{ℕ, zero, suc, _+_, _-_, _<_, _≤_}
+use Prim.Native.Nat.{ℕ, zero, suc, _+_, _<_, _≤_}
 use native.Mathlib.Omega.{arith}
 use native.Mathlib.Nat.{add-zero}
 use native.Mathlib.Decide.{decLt, ℕ-discrete}
 use mathlib.Core.Path.{_≡_, refl, sym, ap, ap₂, _∙_}
 use mathlib.Core.Logic.{dite}
-use mathlib.Core.List.{List, [], _∷_, _++_, append-assoc, append-nil}
+use mathlib.Core.List.{List, [], _∷_, _++_, append-nil}
 use lib.ListN.{length, take, drop, length-drop}
 use lib.Seq.{take-append-seam}
 use Rattle.basics.specs.Bytes.{over}
@@ -13,12 +13,11 @@ use Rattle.basics.specs.Choice.{choose}
 use Rattle.stream.specs.Validation.{validationOf}
 use Rattle.record.specs.Record.{recordOf}
 use Rattle.recording.specs.Decode.{beginning}
-use Rattle.recording.specs.Next.{firstOf, payloadOf}
-use Rattle.recording.specs.Recording.{Delivery, deliveryAt, deliveriesFrom, contentsOf, records}
+use Rattle.recording.specs.Next.{payloadOf}
+use Rattle.recording.specs.Recording.{Delivery, deliveriesFrom, contentsOf, records}
 use Rattle.recording.proofs.Decoding.{beginning-whole, beginning-none}
-use Rattle.recording.proofs.Deliveries.{Whole}
 use Rattle.receiver.specs.Holding.{kept}
-use Rattle.receiver.specs.Receive.{Outcome, outcomeOf, heldIn, outcomeIn, answerOf, acceptedOf, receivedOf, outputAfter, resetOf}
+use Rattle.receiver.specs.Receive.{Outcome, outcomeOf, heldIn, outcomeIn, acceptedOf, receivedOf, outputAfter, resetOf}
 use Rattle.receiver.specs.Feeding.{fresh, Called, deliveredIn, Run, ended, used-up, call, joined}
 use Rattle.receiver.specs.declared.Receiver.{Receiver}
 use Rattle.receiver.specs.declared.Received.{Received}

@@ -1,8 +1,8 @@
 -- What the private functions under `receive` promise. No public contract cites this file.
 use Prim.Native.Nat.{ℕ, _≤_, _<_}
 use mathlib.Core.Path.{_≡_}
-use mathlib.Core.List.{List, []}
-use lib.ListN.{length, take}
+use mathlib.Core.List.{List}
+use lib.ListN.{take}
 use Rattle.stream.specs.Layout.{streamLength}
 use Rattle.receiver.specs.Holding.{extended, kept}
 use Rattle.receiver.specs.declared.buffer.Unfinished.{Unfinished}

@@ -4,7 +4,7 @@ use native.Mathlib.Omega.{arith}
 use native.Mathlib.Decide.{decLt, ℕ-discrete}
 use mathlib.Core.Logic.{_↔_, dite}
 use mathlib.Core.Bool.{true, false≢true}
-use mathlib.Core.Path.{_≡_, refl, sym, ap, _∙_}
+use mathlib.Core.Path.{_≡_, sym, ap, _∙_}
 use mathlib.Core.List.{List, [], _∷_}
 use borrow.Author.Tests.{eq-eqb, ne-eqb}
 use lib.ListN.{length}
@@ -20,7 +20,6 @@ use Rattle.recording.specs.Decode.{beginning, decodedOf, decodedAfter}
 use Rattle.recording.specs.Next.{without, firstOf, payloadOf}
 use Rattle.recording.specs.Recording.{Delivery, deliveryAt}
 use Rattle.recording.specs.Stage.{deliveredOf}
-use Rattle.recording.specs.declared.Found.{Found}
 use Rattle.recording.proofs.Deliveries.{Whole}
 use Rattle.recording.proofs.Searching.{delivered-short, delivered-fits}
 

@@ -1,5 +1,5 @@
 -- `receiver::feed` meets its contract: what is to come of the bytes from here on is what was to come of all of them. Assumes nothing.
-use Prim.Native.Nat.{_-_, _≤_}
+use Prim.Native.Nat.{_-_}
 use native.Mathlib.Omega.{arith}
 use native.Mathlib.Nat.{sub-zero}
 use mathlib.Core.Path.{ap}

@@ -1,6 +1,5 @@
 -- `receiver::receive` meets its contract, by the room. Assumes nothing.
 use native.Mathlib.Omega.{arith}
-use lib.ListN.{length}
 use Rattle.receiver.proofs.Answers.{refused-all, accepted-all}
 use borrow.Author.Needs.{needs}
 use Rattle.receiver.proofs.receive.Statement.{statement}

@@ -1,7 +1,6 @@
 -- `recording::decode` meets its contract, by the verdict. Assumes nothing.
-use Prim.Native.Nat.{_≤_}
 use native.Mathlib.Omega.{arith}
-use mathlib.Core.Path.{_≡_, sym, ap, _∙_}
+use mathlib.Core.Path.{sym, ap, _∙_}
 use lib.ListN.{length}
 use Rattle.stream.specs.declared.Validation.{Validation}
 use Rattle.recording.proofs.Deliveries.{Whole}

@@ -1,8 +1,7 @@
 -- `receiver::buffer::add` meets its contract. Assumes nothing.
-use Prim.Native.Nat.{_+_, _<_, _≤_}
 use native.Mathlib.Omega.{arith}
 use native.Mathlib.Nat.{sub-zero}
-use lib.ListN.{length, set, length-set}
+use lib.ListN.{length-set}
 use Rattle.receiver.proofs.Memory.{holding-room, adds-short, adds-last}
 use borrow.Author.Needs.{needs}
 use Rattle.receiver.proofs.buffer.add.Statement.{statement}

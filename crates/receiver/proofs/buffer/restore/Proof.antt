@@ -1,10 +1,6 @@
 -- `receiver::buffer::restore` meets its contract. Assumes nothing.
-use Prim.Native.Nat.{_<_, _≤_}
 use native.Mathlib.Omega.{arith}
 use native.Mathlib.Nat.{sub-zero}
-use mathlib.Core.Path.{_≡_}
-use lib.ListN.{length, take}
-use Rattle.stream.specs.Layout.{streamLength}
 use Rattle.receiver.proofs.Memory.{restored-full, restored-long, restored-most, restored}
 use borrow.Author.Needs.{needs}
 use Rattle.receiver.proofs.buffer.restore.Statement.{statement}
