@@ -1,0 +1,205 @@
+/*
+ * Watches a VBus: prints a line for each record as it arrives: kind letter, destination, source, version, command,
+ * payload, in upper-case hex, as examples/list.c does. Damaged streams are passed over.
+ *
+ *   gcc -std=c99 -Iinclude examples/watch.c target/staticlib/libvbus.a -o target/watch-c
+ *   target/watch-c DEVICE, or target/watch-c < FILE
+ *
+ * A serial port is set to 9600 bits a second, 8N1, raw, and put back as it was at the end, also where a signal ends the
+ * program. Nothing is ever sent. A file, a FIFO or a pipe is read as it is, up to its end.
+ *
+ * Exit status: 0 the input ended; 1 it couldn't be read or set, the device is gone, or a line couldn't be written;
+ * 2 wrong use. A signal ends it as it does other programs, also where whoever reads the lines has gone.
+ */
+#define _POSIX_C_SOURCE 200809L /* termios, sigaction */
+#include <errno.h>
+#include <fcntl.h>
+#include <signal.h>
+#include <stdio.h>
+#include <string.h>
+#include <sys/stat.h>
+#include <termios.h>
+#include <unistd.h>
+
+#include "vbus.h"
+
+static const char usage[] = "usage: watch DEVICE, or watch < FILE; a serial port must be named\n";
+
+typedef struct {
+    int descriptor;
+    const char *name;
+    bool port; /* a terminal device, which has no end but that it is gone */
+} source;
+
+typedef struct {
+    vbus_receiver receiver;
+    uint8_t memory[VBUS_MAX_STREAM];
+    unsigned long long bytes; /* taken in so far: after 50 days more than 32 bits hold */
+    bool found;
+} progress;
+
+/* The port that is set, and its settings before. A signal handler gets no other arguments. */
+static int port = -1;
+static struct termios former;
+
+static int say(const char *what, const char *reason) {
+    fprintf(stderr, "watch: %s: %s\n", what, reason);
+    return 1;
+}
+
+static int failure(const char *what) {
+    return say(what, strerror(errno));
+}
+
+/* Puts the port back as it was. If it is gone there is nothing to put back. */
+static void put_back(void) {
+    if (port != -1) tcsetattr(port, TCSANOW, &former);
+}
+
+/* Its action is the default again (SA_RESETHAND), so that the signal ends the program once this returns. */
+static void end_by(int number) {
+    put_back();
+    raise(number);
+}
+
+/* The handler ends the program, rather than a flag: it may be waiting for the bus or for whoever reads the lines. A
+ * signal that is ignored, as nohup has it, stays so. */
+static void catch_signals(void) {
+    static const int numbers[] = {SIGHUP, SIGINT, SIGQUIT, SIGTERM, SIGPIPE};
+    for (size_t i = 0; i < sizeof numbers / sizeof numbers[0]; i++) {
+        struct sigaction action;
+        sigaction(numbers[i], NULL, &action);
+        if (action.sa_handler == SIG_IGN) continue;
+        action.sa_handler = end_by;
+        action.sa_flags = SA_RESETHAND;
+        sigfillset(&action.sa_mask);
+        sigaction(numbers[i], &action, NULL);
+    }
+}
+
+/* 9600 8N1, raw: no translation, no echo, no flow control, no modem lines. Set from nothing, so that no system's own
+ * flags stay; only what happens to the modem lines at the last close is left as it was. */
+static struct termios wanted(void) {
+    struct termios settings = former;
+    settings.c_iflag = 0;
+    settings.c_oflag = 0;
+    settings.c_lflag = 0;
+    settings.c_cflag = CS8 | CREAD | CLOCAL | (former.c_cflag & HUPCL);
+    settings.c_cc[VMIN] = 1;
+    settings.c_cc[VTIME] = 0;
+    cfsetispeed(&settings, B9600);
+    cfsetospeed(&settings, B9600);
+    return settings;
+}
+
+static bool same(const struct termios *a, const struct termios *b) {
+    const tcflag_t controls = CSIZE | CSTOPB | PARENB | CREAD | CLOCAL;
+    return a->c_iflag == b->c_iflag && a->c_lflag == b->c_lflag && ((a->c_cflag ^ b->c_cflag) & controls) == 0 &&
+           a->c_cc[VMIN] == b->c_cc[VMIN] && a->c_cc[VTIME] == b->c_cc[VTIME] && cfgetispeed(a) == cfgetispeed(b) &&
+           cfgetospeed(a) == cfgetospeed(b);
+}
+
+/* What came under other settings may not be what was sent: TCSAFLUSH drops it. */
+static int set_port(const source *from) {
+    if (tcgetattr(from->descriptor, &former) != 0) return failure(from->name);
+    port = from->descriptor;
+    catch_signals();
+    struct termios settings = wanted(), got;
+    if (tcsetattr(port, TCSAFLUSH, &settings) != 0 || tcgetattr(port, &got) != 0) return failure(from->name);
+    /* tcsetattr succeeds if it could set anything */
+    return same(&settings, &got) ? 0 : say(from->name, "can't be set to 9600 bits a second, 8N1, raw");
+}
+
+/* Opens the device or file. Without a carrier a serial port would block the opening; of a FIFO it is the opening that
+ * must wait for a writer. */
+static int open_source(source *from) {
+    struct stat status;
+    bool device = stat(from->name, &status) == 0 && S_ISCHR(status.st_mode);
+    from->descriptor = open(from->name, O_RDONLY | O_NOCTTY | (device ? O_NONBLOCK : 0));
+    if (from->descriptor == -1) return failure(from->name);
+    from->port = isatty(from->descriptor);
+    if (from->port && tcgetpgrp(from->descriptor) != -1) {
+        /* once it is raw no key would end the program */
+        say(from->name, "is the terminal that this runs at, not a bus");
+        return 2;
+    }
+    if (from->port && set_port(from) != 0) return 1;
+    /* reads wait: with CLOCAL set the carrier doesn't matter any more */
+    int flags = fcntl(from->descriptor, F_GETFL);
+    bool waits = flags != -1 && fcntl(from->descriptor, F_SETFL, flags & ~O_NONBLOCK) != -1;
+    return waits ? 0 : failure(from->name);
+}
+
+/* The line is handed to the system at once and whole. */
+static bool print_record(vbus_header header, const uint8_t *payload, size_t n) {
+    char kind = header.version == VBUS_PACKET ? 'P' : header.version == VBUS_DATAGRAM ? 'D' : 'T';
+    int digits = kind == 'T' ? 2 : 4; /* a telegram's command is one byte */
+    printf("%c %04X %04X %02X %0*X", kind, (unsigned)header.destination, (unsigned)header.source,
+           (unsigned)header.version, digits, (unsigned)header.command);
+    if (n > 0) putchar(' ');
+    for (size_t i = 0; i < n; i++) printf("%02X", (unsigned)payload[i]);
+    putchar('\n');
+    return fflush(stdout) == 0;
+}
+
+/* Prints each record that the chunk completes; what is unfinished stays in the memory for the next chunk. */
+static bool take_in(progress *so_far, const uint8_t *chunk, size_t n) {
+    uint8_t payload[VBUS_MAX_PAYLOAD];
+    so_far->bytes += n;
+    for (size_t at = 0; at < n;) {
+        /* can't refuse: the room suffices for any record */
+        vbus_received next =
+            vbus_receive(so_far->receiver, so_far->memory, chunk + at, n - at, payload, sizeof payload);
+        so_far->receiver = next.receiver;
+        at += next.used;
+        if (!next.found) continue;
+        so_far->found = true;
+        if (!print_record(next.header, payload, next.payload_length)) return false;
+    }
+    return true;
+}
+
+static int close_output(void) {
+    return fclose(stdout) == 0 ? 0 : failure("standard output");
+}
+
+static int end(const progress *so_far) {
+    if (close_output() != 0) return 1;
+    if (so_far->receiver.held > 0)
+        fprintf(stderr, "watch: the input ended within a stream, bytes held: %zu\n", so_far->receiver.held);
+    if (!so_far->found && so_far->bytes > 0)
+        fprintf(stderr, "watch: no record found, bytes looked at: %llu\n", so_far->bytes);
+    return 0;
+}
+
+static int watch(const source *from) {
+    progress so_far = {{0}, {0}, 0, false};
+    uint8_t chunk[4096];
+    for (;;) {
+        ssize_t n = read(from->descriptor, chunk, sizeof chunk);
+        if (n == -1 && errno == EINTR) continue;
+        if (from->port && (n == 0 || (n == -1 && errno == EIO))) return say(from->name, "the device is gone");
+        if (n == -1) return failure(from->name);
+        if (n == 0) return end(&so_far);
+        if (!take_in(&so_far, chunk, (size_t)n)) return failure("standard output");
+    }
+}
+
+int main(int argc, char **argv) {
+    static char line[2 * VBUS_MAX_PAYLOAD + 64]; /* holds any line, so that each is written whole */
+    setvbuf(stdout, line, _IOFBF, sizeof line);
+    if (argc == 2 && (strcmp(argv[1], "--help") == 0 || strcmp(argv[1], "-h") == 0)) {
+        fputs(usage, stdout);
+        return close_output();
+    }
+    /* at a terminal the device was forgotten; one that is a port would be changed without being named */
+    if (argc > 2 || (argc < 2 && isatty(STDIN_FILENO))) {
+        fputs(usage, stderr);
+        return 2;
+    }
+    source from = {STDIN_FILENO, argc == 2 ? argv[1] : "standard input", false};
+    int status = argc == 2 ? open_source(&from) : 0;
+    if (status == 0) status = watch(&from);
+    put_back();
+    return status;
+}
