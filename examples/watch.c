@@ -38,8 +38,8 @@ typedef struct {
     bool found;
 } progress;
 
-/* The port that is set, and its settings before. A signal handler gets no other arguments. */
-static int port = -1;
+/* The port whose settings were changed, and what they were: a signal handler finds them nowhere else. */
+static int changed = -1;
 static struct termios former;
 
 static int say(const char *what, const char *reason) {
@@ -51,9 +51,17 @@ static int failure(const char *what) {
     return say(what, strerror(errno));
 }
 
+static int gone(const source *from) {
+    return say(from->name, "the device is gone");
+}
+
+static int source_failure(const source *from) {
+    return from->port && errno == EIO ? gone(from) : failure(from->name);
+}
+
 /* Puts the port back as it was. If it is gone there is nothing to put back. */
 static void put_back(void) {
-    if (port != -1) tcsetattr(port, TCSANOW, &former);
+    if (changed != -1) tcsetattr(changed, TCSANOW, &former);
 }
 
 /* Its action is the default again (SA_RESETHAND), so that the signal ends the program once this returns. */
@@ -101,11 +109,11 @@ static bool same(const struct termios *a, const struct termios *b) {
 
 /* What came under other settings may not be what was sent: TCSAFLUSH drops it. */
 static int set_port(const source *from) {
-    if (tcgetattr(from->descriptor, &former) != 0) return failure(from->name);
-    port = from->descriptor;
+    if (tcgetattr(from->descriptor, &former) != 0) return source_failure(from);
+    changed = from->descriptor;
     catch_signals();
     struct termios settings = wanted(), got;
-    if (tcsetattr(port, TCSAFLUSH, &settings) != 0 || tcgetattr(port, &got) != 0) return failure(from->name);
+    if (tcsetattr(changed, TCSAFLUSH, &settings) != 0 || tcgetattr(changed, &got) != 0) return source_failure(from);
     /* tcsetattr succeeds if it could set anything */
     return same(&settings, &got) ? 0 : say(from->name, "can't be set to 9600 bits a second, 8N1, raw");
 }
@@ -178,9 +186,8 @@ static int watch(const source *from) {
     for (;;) {
         ssize_t n = read(from->descriptor, chunk, sizeof chunk);
         if (n == -1 && errno == EINTR) continue;
-        if (from->port && (n == 0 || (n == -1 && errno == EIO))) return say(from->name, "the device is gone");
-        if (n == -1) return failure(from->name);
-        if (n == 0) return end(&so_far);
+        if (n == -1) return source_failure(from);
+        if (n == 0) return from->port ? gone(from) : end(&so_far);
         if (!take_in(&so_far, chunk, (size_t)n)) return failure("standard output");
     }
 }
