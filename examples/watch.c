@@ -138,7 +138,7 @@ static int open_source(source *from) {
     return waits ? 0 : failure(from->name);
 }
 
-/* The line is handed to the system at once and whole. */
+/* The line is handed to the system at once. */
 static bool print_record(vbus_header header, const uint8_t *payload, size_t n) {
     char kind = header.version == VBUS_PACKET ? 'P' : header.version == VBUS_DATAGRAM ? 'D' : 'T';
     int digits = kind == 'T' ? 2 : 4; /* a telegram's command is one byte */
@@ -193,8 +193,6 @@ static int watch(const source *from) {
 }
 
 int main(int argc, char **argv) {
-    static char line[2 * VBUS_MAX_PAYLOAD + 64]; /* holds any line, so that each is written whole */
-    setvbuf(stdout, line, _IOFBF, sizeof line);
     if (argc == 2 && (strcmp(argv[1], "--help") == 0 || strcmp(argv[1], "-h") == 0)) {
         fputs(usage, stdout);
         return close_output();
