@@ -6,7 +6,7 @@ ghost use lib.ListN.{length, take};
 ghost use Rattle.receiver.specs.Stage.{Holding, Restored, TookByte};
 use crate::length::announced;
 
-// How many bytes are held, and how many their stream has at least. The announced length is looked up again only when so many are held.
+// How many bytes are held, and how many their stream has at least: the announced length is looked up again only when so many are held.
 pub struct Unfinished {
     pub held: usize,
     pub least: usize,
@@ -24,6 +24,7 @@ pub fn restore(memory: &[u8], held: usize) -> Unfinished
     requires { ⌜ length (now memory) ≡ 772 ⌝ }
     ensures { λ r. ⌜ Restored (now (memory .entry)) held r ⌝ }
 {
+    // No stream is longer than 772 bytes, and so no unfinished one is as long.
     if held >= 772 {
         return nothing();
     }
@@ -50,17 +51,17 @@ fn begin(memory: &mut [u8], byte: u8) -> Unfinished
 }
 
 // A byte below 0x80 behind those held.
-fn add(memory: &mut [u8], u: Unfinished, byte: u8) -> Unfinished
-    requires { ⌜ (length (now memory) ≡ 772) × (Holding (now memory) u × ((0 < u .held) × (byte < 0x80))) ⌝ }
-    ensures { λ r. ⌜ TookByte (take (u .held) (now (memory .entry))) byte (now (memory .exit)) r ⌝ }
+fn add(memory: &mut [u8], state: Unfinished, byte: u8) -> Unfinished
+    requires { ⌜ (length (now memory) ≡ 772) × (Holding (now memory) state × ((0 < state .held) × (byte < 0x80))) ⌝ }
+    ensures { λ r. ⌜ TookByte (take (state .held) (now (memory .entry))) byte (now (memory .exit)) r ⌝ }
 {
-    let held = u.held;
+    let held = state.held;
     memory[held] = byte;
     let count = held + 1;
-    if count < u.least {
+    if count < state.least {
         return Unfinished {
             held: count,
-            least: u.least,
+            least: state.least,
         };
     }
     Unfinished {
@@ -70,15 +71,15 @@ fn add(memory: &mut [u8], u: Unfinished, byte: u8) -> Unfinished
 }
 
 // Takes in one byte.
-pub fn take_byte(memory: &mut [u8], u: Unfinished, byte: u8) -> Unfinished
-    requires { ⌜ (length (now memory) ≡ 772) × Holding (now memory) u ⌝ }
-    ensures { λ r. ⌜ TookByte (take (u .held) (now (memory .entry))) byte (now (memory .exit)) r ⌝ }
+pub fn take_byte(memory: &mut [u8], state: Unfinished, byte: u8) -> Unfinished
+    requires { ⌜ (length (now memory) ≡ 772) × Holding (now memory) state ⌝ }
+    ensures { λ r. ⌜ TookByte (take (state .held) (now (memory .entry))) byte (now (memory .exit)) r ⌝ }
 {
     if byte >= 0x80 {
         return begin(memory, byte);
     }
-    if u.held == 0 {
-        return u;
+    if state.held == 0 {
+        return state;
     }
-    add(memory, u, byte)
+    add(memory, state, byte)
 }

@@ -13,7 +13,17 @@ pub extern "C" fn vbus_next(input: &[u8], start: usize, payload: &mut [u8]) -> F
     ensures { λ r. ⌜ r ≡ nextOf (now (input .entry)) start (length (now (payload .entry))) ⌝ }
     ensures { λ r. ⌜ now (payload .exit) ≡ payloadAfter (now (input .entry)) start (now (payload .entry)) ⌝ }
 {
-    recording::next(input, start, payload)
+    // Field by field: a copy of the struct would load the number and the flag as one where each was stored, and wait for them.
+    let next = recording::next(input, start, payload);
+    let header = next.header;
+    Found {
+        number: next.number,
+        found: next.found,
+        place: next.place,
+        length: next.length,
+        header,
+        payload_length: next.payload_length,
+    }
 }
 
 // Writes the records of a recording again, end to end, to the start of `out`. A refusal leaves every byte of `out` as it was.

@@ -19,7 +19,7 @@ same-length c = search needs
 returns : tie.Need-returns
 returns c =
     let at = c .before .before .before in
-    adds-short (at .args .memory .now) (at .args .byte) (at .args .u) (at .pre .0) (at .pre .1 .0) (at .pre .1 .1 .0) (at .pre .1 .1 .1) (omega arith)
+    adds-short (at .args .memory .now) (at .args .byte) (at .args .state) (at .pre .0) (at .pre .1 .0) (at .pre .1 .1 .0) (at .pre .1 .1 .1) (omega arith)
 
 sub-announced : tie.Need-sub-announced
 sub-announced c = search needs
@@ -30,7 +30,7 @@ part-announced-start c = search needs
 part-announced-end : tie.Need-part-announced-end
 part-announced-end c =
     let at = c .before .before .before .before in
-    omega (arith, at .pre .0, holding-room (at .args .memory .now) (at .args .u) (at .pre .1 .0), length-set (at .args .memory .now) (at .args .u .held) (at .args .byte))
+    omega (arith, at .pre .0, holding-room (at .args .memory .now) (at .args .state) (at .pre .1 .0), length-set (at .args .memory .now) (at .args .state .held) (at .args .byte))
 
 announced-requires : tie.Need-announced-requires
 announced-requires c κs = search needs
@@ -41,7 +41,7 @@ same-length-2 c = search needs
 returns-2 : tie.Need-returns-2
 returns-2 c =
     let at = c .before .before .before .before .before .before in
-    adds-last (at .args .memory .now) (at .args .byte) (at .args .u) (at .pre .0) (at .pre .1 .0) (at .pre .1 .1 .0) (at .pre .1 .1 .1) (omega arith) (c .announced .result)
+    adds-last (at .args .memory .now) (at .args .byte) (at .args .state) (at .pre .0) (at .pre .1 .0) (at .pre .1 .1 .0) (at .pre .1 .1 .1) (omega arith) (c .announced .result)
     (rw sub-zero at (c .announced .ensures))
 
 pub add-spec : {M : Type 1} → statement M

@@ -16,10 +16,10 @@ returns : tie.Need-returns
 returns c =
     let args = c .before .before .before .before .before .before .args in
     let begin = c .before .before .begin in
-    high-alone (take (args .u .held) (args .memory .now)) (args .byte) (begin .last .0) (begin .result) (omega arith) (begin .ensures)
+    high-alone (take (args .state .held) (args .memory .now)) (args .byte) (begin .last .0) (begin .result) (omega arith) (begin .ensures)
 
 returns-2 : tie.Need-returns-2
-returns-2 c = let at = c .before .before .before .before in low-unused (at .args .memory .now) (at .args .byte) (at .args .u) (omega arith) (c .if2 .taken) (at .pre .1)
+returns-2 c = let at = c .before .before .before .before in low-unused (at .args .memory .now) (at .args .byte) (at .args .state) (omega arith) (c .if2 .taken) (at .pre .1)
 
 add-requires : tie.Need-add-requires
 add-requires c κs = search needs
