@@ -3,7 +3,7 @@ use Prim.Native.Nat.{ℕ, zero, suc, _+_, _<_, _≤_}
 use native.Mathlib.Omega.{arith}
 use native.Mathlib.Nat.{add-zero}
 use native.Mathlib.Decide.{decLt, ℕ-discrete}
-use mathlib.Core.Path.{_≡_, refl, sym, ap, ap₂, _∙_}
+use mathlib.Core.Path.{_≡_, refl, sym, ap, _∙_}
 use mathlib.Core.Logic.{dite}
 use mathlib.Core.List.{List, [], _∷_, _++_, append-nil}
 use lib.ListN.{length, take, drop, length-drop}
@@ -24,7 +24,7 @@ use Rattle.receiver.specs.declared.Received.{Received}
 use Rattle.receiver.proofs.Extending.{kept-early}
 use Rattle.receiver.proofs.Steps.{Held, none, held-kept, held-nothing}
 use Rattle.receiver.proofs.Outcomes.{deliveredAt, delivered-whole, delivered-none, follows, uses}
-use Rattle.receiver.proofs.Answers.{accepted, accepted-exactly, answer-is, output-is, memory-is}
+use Rattle.receiver.proofs.Answers.{accepted, accepted-exactly, refused-exactly, refused-nothing, answer-is, output-is, memory-is}
 
 -- ── what one call delivers
 
@@ -38,6 +38,52 @@ told end o out =
     rw (beginning-whole s w, delivered-whole end s w, take-append-seam (recordOf s .payload) (drop (length (recordOf s .payload)) out)))
     (λ faulty. rw (beginning-none s faulty, delivered-none end s faulty))
 
+-- k is held from now on: what was to be delivered from the held bytes h on, which stand from p on, is what the call delivers and what is to
+-- be delivered from then on, whatever follows
+record Continues (p before : ℕ) (h chunk : List ℕ) (answer : Received) (out' memory' : List ℕ) : Type 0 where
+  place : ℕ
+  k : List ℕ
+  held : Held k
+  is : heldIn (answer .receiver) memory' ≡ k
+  there : place + length k ≡ before + answer .used
+  same : (t : List ℕ) → deliveriesFrom p (h ++ (chunk ++ t)) ≡ deliveredIn (before + answer .used) answer out' ++ deliveriesFrom place (k ++ (drop (answer .used) chunk ++ t))
+
+module _ {receiver : Receiver} {memory chunk out : List ℕ} {answer : Received} {out' memory' : List ℕ} (called : Called receiver memory chunk out answer out' memory')
+    (p before : ℕ) (h : List ℕ) (is : heldIn receiver memory ≡ h) (held : Held h) (from : p + length h ≡ before) where
+  continues-accepted : answer .number ≡ 0 → Continues p before h chunk answer out' memory'
+  continues-accepted accept =
+      let o = outcomeOf h chunk in
+      let is-o : outcomeIn receiver memory chunk ≡ o = ap (λ (x : List ℕ). outcomeOf x chunk) is in
+      let answered : answer ≡ acceptedOf o = answer-is called accept ∙ ap acceptedOf is-o in
+      let written : out' ≡ over (payloadOf (beginning (o .stream))) out = output-is called accept ∙ ap (λ (x : Outcome). over (payloadOf (beginning (x .stream))) out) is-o in
+      let remembered : take (length (o .held)) memory' ≡ o .held = rw is-o at (memory-is called accept) in
+      let one = follows h chunk held p in
+      let end : p + length h + o .used ≡ before + o .used = omega arith in
+      rw (answered, written) (record {
+        place = one .place;
+        k = o .held;
+        held = one .held;
+        is = ap kept remembered ∙ held-kept (o .held) (one .held);
+        there = one .there ∙ end;
+        same = λ t.
+            one .same t
+            ∙ ap (λ (ds : List Delivery). ds ++ deliveriesFrom (one .place) (o .held ++ (drop (o .used) chunk ++ t)))
+            (ap (λ (n : ℕ). deliveredAt n (o .stream)) end ∙ sym (told (before + o .used) o out));
+      })
+
+  continues-refused : answer .number ≡ 5 → Continues p before h chunk answer out' memory'
+  unfolding choose
+  continues-refused five =
+      let (answered, written, remembered) = refused-nothing called five in
+      rw (answered, remembered) (record { place = p; k = h; held = held; is = is; there = omega arith; same = λ t. refl })
+
+  continues : Continues p before h chunk answer out' memory'
+  continues =
+      let numbered = ap (λ (r : Received). r .number) (called .answers) in
+      dite (decLt (length out) 508)
+      (λ short. continues-refused (numbered ∙ refused-exactly receiver memory chunk (length out) .1 short))
+      (λ fits. continues-accepted (numbered ∙ accepted-exactly receiver memory chunk (length out) .1 (omega arith)))
+
 -- ── any number of calls
 
 -- from a state that holds h, which stands from p on
@@ -45,23 +91,10 @@ run-deliveries : {before : ℕ} {receiver : Receiver} {memory : List ℕ} {chunk
     → heldIn receiver memory ≡ h → Held h → p + length h ≡ before → Run before receiver memory chunks ds → ds ≡ deliveriesFrom p (h ++ joined chunks)
 run-deliveries p h is held from ended = sym (ap (deliveriesFrom p) (append-nil h) ∙ held-nothing p h held)
 run-deliveries p h is held from (used-up run) = run-deliveries p h is held from run
-run-deliveries {before} {receiver} {memory} p h is held from (call {chunks = rest} chunk out answer out' memory' called accept run) =
-    let o = outcomeOf h chunk in
-    let same : outcomeIn receiver memory chunk ≡ o = ap (λ (x : List ℕ). outcomeOf x chunk) is in
-    let answered : answer ≡ acceptedOf o = answer-is called accept ∙ ap acceptedOf same in
-    let written : out' ≡ over (payloadOf (beginning (o .stream))) out = output-is called accept ∙ ap (λ (x : Outcome). over (payloadOf (beginning (x .stream))) out) same in
-    let remembered : take (length (o .held)) memory' ≡ o .held = rw same at (memory-is called accept) in
-    let used : answer .used ≡ o .used = ap (λ (r : Received). r .used) answered in
-    let one = follows h chunk held p in
-    let holds : heldIn (answer .receiver) memory' ≡ o .held =
-    ap (λ (r : Received). heldIn (r .receiver) memory') answered ∙ ap kept remembered ∙ held-kept (o .held) (one .held) in
-    let end : p + length h + o .used ≡ before + answer .used = omega (arith, used) in
-    let more = run-deliveries (one .place) (o .held) holds (one .held) (one .there ∙ end) run in
-    let first : deliveredIn (before + answer .used) answer out' ≡ deliveredAt (before + answer .used) (o .stream) =
-    ap₂ (deliveredIn (before + answer .used)) answered written ∙ told (before + answer .used) o out in
-    ap₂ {C = List Delivery} (λ a b. a ++ b) first (more ∙ ap (λ (n : ℕ). deliveriesFrom (one .place) (o .held ++ (drop n chunk ++ joined rest))) used)
-    ∙ ap (λ (n : ℕ). deliveredAt n (o .stream) ++ deliveriesFrom (one .place) (o .held ++ (drop (o .used) chunk ++ joined rest))) (sym end)
-    ∙ sym (one .same (joined rest))
+run-deliveries {before} p h is held from (call {chunks = rest} chunk out answer out' memory' called run) =
+    let next = continues called p before h is held from in
+    let more = run-deliveries (next .place) (next .k) (next .is) (next .held) (next .there) run in
+    ap (λ (ds : List Delivery). deliveredIn (before + answer .used) answer out' ++ ds) more ∙ sym (next .same (joined rest))
 
 -- a receiver that is reset, whatever it held, delivers from there on as on a recording that begins at that byte
 pub reset-fresh : (before : ℕ) (receiver : Receiver) (memory : List ℕ) (chunks : List (List ℕ)) (ds : List Delivery)
@@ -106,7 +139,7 @@ module _ (out : List ℕ) (room : 508 ≤ length out) where
       let accept = accepted-exactly receiver memory chunk (length out) .1 room in
       let used : answer .used ≡ o .used = ap (λ (r : Received). r .used) (answer-is called accept) in
       let (ds, run) = rest (answer .used) (omega (arith, used, uses (heldIn receiver memory) chunk .some some)) (before + answer .used) (answer .receiver) memory' in
-      (_, call chunk out answer out' memory' called accept run)
+      (_, call chunk out answer out' memory' called run)
 
   fed-chunk : (fuel : ℕ) (chunk : List ℕ) (chunks : List (List ℕ)) → length chunk ≤ fuel → Fed chunks → Fed (chunk ∷ chunks)
   fed-chunk zero chunk chunks enough rest = none-left chunk chunks (omega arith) rest

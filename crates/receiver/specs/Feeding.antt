@@ -30,8 +30,8 @@ deliveredIn end answer out =
     } ∷ [])
     []
 
--- calls, none of them refused, that use up the chunks one after the other, and what they deliver: each chunk is handed over again from
--- where the receiver stopped. So many bytes were used before; what the output held before a call doesn't matter
+-- calls that use up the chunks one after the other, and what they deliver: each chunk is handed over again from where the receiver stopped,
+-- also after a refusal. So many bytes were used before; what the output holds before a call, and its room, may be anything
 pub data Run : ℕ → Receiver → List ℕ → List (List ℕ) → List Delivery → Type 0 where
   ended : {before : ℕ} {receiver : Receiver} {memory : List ℕ} → Run before receiver memory [] []
   used-up : {before : ℕ} {receiver : Receiver} {memory : List ℕ} {chunks : List (List ℕ)} {ds : List Delivery}
@@ -40,7 +40,6 @@ pub data Run : ℕ → Receiver → List ℕ → List (List ℕ) → List Delive
   call : {before : ℕ} {receiver : Receiver} {memory : List ℕ} {chunks : List (List ℕ)} {ds : List Delivery}
       (chunk out : List ℕ) (answer : Received) (out' memory' : List ℕ)
       → Called receiver memory chunk out answer out' memory'
-      → answer .number ≡ 0
       → Run (before + answer .used) (answer .receiver) memory' (drop (answer .used) chunk ∷ chunks) ds
       → Run before receiver memory (chunk ∷ chunks) (deliveredIn (before + answer .used) answer out' ++ ds)
 
