@@ -19,11 +19,11 @@ use Rattle.recording.specs.Next.{without, firstOf, payloadOf}
 use Rattle.recording.specs.Recording.{Delivery, deliveryAt}
 use Rattle.recording.proofs.Decoding.{beginning-whole, beginning-none}
 use Rattle.recording.proofs.Deliveries.{Whole}
-use Rattle.receiver.specs.Receive.{Outcome, heldIn, outcomeIn, refusal, answerOf, acceptedOf, receivedOf, outputAfter, Remembered}
+use Rattle.receiver.specs.Receive.{Outcome, heldIn, outcomeIn, refusal, answerOf, acceptedOf, receivedOf}
 use Rattle.receiver.specs.Feeding.{fresh, Called}
 use Rattle.receiver.specs.declared.Receiver.{Receiver}
 use Rattle.receiver.specs.declared.Received.{Received}
-use Rattle.receiver.proofs.Outcomes.{uses, last-used, kept-is-short, whole-or-none}
+use Rattle.receiver.proofs.Outcomes.{uses, kept-less, last-used, kept-is-short, whole-or-none}
 
 -- ── by the room
 
@@ -64,36 +64,29 @@ module _ (receiver : Receiver) (memory chunk : List ℕ) (room : ℕ) where
     (λ short. ap (λ (r : Received). r .number) (answers-refused short)),
   )
 
--- ── what `receive` ensures: its answer, its output and its memory
-
-abbrev Ensured : Receiver → List ℕ → List ℕ → List ℕ → Received → List ℕ → List ℕ → Type 0
-Ensured receiver memory chunk out answer out' memory' =
-    (answer ≡ receivedOf receiver memory chunk (length out))
-    × ((out' ≡ outputAfter receiver memory chunk out) × Remembered receiver memory chunk (length out) memory')
+-- ── what `receive` does
 
 module _ (receiver : Receiver) (memory chunk out : List ℕ) where
-  pub refused-all : length out < 508 → Ensured receiver memory chunk out (answerOf (without 5) 0 receiver) out memory
+  pub refused-all : length out < 508 → Called receiver memory chunk out (answerOf (without 5) 0 receiver) out memory
   refused-all short =
-      let five = refused (length out) short in (
-        sym (answers-refused receiver memory chunk (length out) short),
-        (
-          sym (when-refused (refusal (length out)) _ _ (λ zero. omega (arith, five))),
-          record { refused = λ more. refl; held = λ zero. absurd (omega (arith, five)) },
-        ),
-      )
+      let five = refused (length out) short in
+      record {
+        answers = sym (answers-refused receiver memory chunk (length out) short);
+        output = sym (when-refused (refusal (length out)) _ _ (λ zero. omega (arith, five)));
+        remembers = record { refused = λ more. refl; held = λ zero. absurd (omega (arith, five)) };
+      }
 
   pub accepted-all : (answer : Received) (out' memory' : List ℕ) → 508 ≤ length out → answer ≡ acceptedOf (outcomeIn receiver memory chunk)
       → out' ≡ over (payloadOf (beginning (outcomeIn receiver memory chunk .stream))) out
       → take (answer .receiver .held) memory' ≡ outcomeIn receiver memory chunk .held
-      → Ensured receiver memory chunk out answer out' memory'
+      → Called receiver memory chunk out answer out' memory'
   accepted-all answer out' memory' fits is output held =
-      let zero = accepted (length out) fits in (
-        is ∙ sym (answers-accepted receiver memory chunk (length out) fits),
-        (
-          output ∙ sym (when-none (refusal (length out)) _ _ zero),
-          record { refused = λ more. absurd (omega (arith, zero)); held = λ none. rw is at held },
-        ),
-      )
+      let zero = accepted (length out) fits in
+      record {
+        answers = is ∙ sym (answers-accepted receiver memory chunk (length out) fits);
+        output = output ∙ sym (when-none (refusal (length out)) _ _ zero);
+        remembers = record { refused = λ more. absurd (omega (arith, zero)); held = λ none. rw is at held };
+      }
 
 -- a refused call uses nothing and changes nothing
 pub refused-nothing : {receiver : Receiver} {memory chunk out : List ℕ} {answer : Received} {out' memory' : List ℕ}
@@ -108,6 +101,12 @@ refused-nothing {receiver} {memory} {chunk} {out} called five =
     )
 
 -- ── a call that isn't refused
+
+-- how many bytes are used and held: no more than there are, and than fit; of some bytes one at least is used
+pub record UsesSome (chunk : List ℕ) (answer : Received) : Type 0 where
+  pub within : answer .used ≤ length chunk
+  pub some : 0 < length chunk → 0 < answer .used
+  pub less : answer .receiver .held < 772
 
 -- a whole stream that ends with the last byte used, among the bytes held before and used, and its record as the answer and the output tell it
 pub record DeliversWhole (receiver : Receiver) (memory chunk : List ℕ) (answer : Received) (out' : List ℕ) : Type 0 where
@@ -147,6 +146,11 @@ module _ {receiver : Receiver} {memory chunk out : List ℕ} {answer : Received}
   unfound-faulty : answer .found ≡ false → Whole (o .stream) → ⊥
   unfound-faulty unfound w =
       true≢false (sym (ap (λ (r : Received). r .found) answer-is ∙ ap (λ (ds : List Delivery). firstOf ds .found) (beginning-whole (o .stream) w)) ∙ unfound)
+
+  pub received-used : UsesSome chunk answer
+  received-used =
+      let brings = uses (heldIn receiver memory) chunk in
+      rw answer-is (record { within = brings .within; some = brings .some; less = brings .less (kept-less (take (receiver .held) memory)) })
 
   -- with no record all bytes are used, and the output stays as it was
   pub received-none : answer .found ≡ false → (answer .used ≡ length chunk) × (out' ≡ out)

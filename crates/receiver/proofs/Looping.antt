@@ -19,7 +19,7 @@ use Rattle.recording.proofs.Decoding.{beginning-none, decoded-room, output-room
 use Rattle.recording.proofs.Deliveries.{Whole}
 use Rattle.receiver.specs.Holding.{extended, kept}
 use Rattle.receiver.specs.Receive.{Outcome, oneMore, outcomeOf, answerOf, acceptedOf}
-use Rattle.receiver.specs.Stage.{Holding, Restored, TookByte, unfinished, full}
+use Rattle.receiver.specs.Stage.{Holds, Restored, TookByte, unfinished, full}
 use Rattle.receiver.specs.declared.Received.{Received}
 use Rattle.receiver.specs.declared.buffer.Unfinished.{Unfinished}
 use Rattle.receiver.proofs.Extending.{kept-short, kept-long}
@@ -33,7 +33,7 @@ later n o = record { stream = o .stream; held = o .held; used = n + o .used }
 -- so many bytes of the chunk were used, none of them completed a whole stream, and the outcome is that of the others behind what is held now
 pub record FeedAt (h chunk out₀ memory out : List ℕ) (u : Unfinished) (used : ℕ) : Type 0 where
   pub size : length memory ≡ 772
-  pub holding : Holding memory u
+  pub holding : Holds memory u
   pub within : used ≤ length chunk
   pub same : outcomeOf h chunk ≡ later used (outcomeOf (take (u .held) memory) (drop used chunk))
   pub output : out ≡ out₀
@@ -73,7 +73,7 @@ module _ {h chunk out₀ memory out : List ℕ} {u : Unfinished} {used : ℕ} (a
     next : (o : Outcome) → later used (oneMore o) ≡ later (used + 1) o
     next o = ap (λ (n : ℕ). record { stream = o .stream; held = o .held; used = n }) (omega arith)
 
-    goes-on : (Whole s → ⊥) → (out' : List ℕ) → out' ≡ out → (v : Unfinished) → Holding after v → kept s ≡ take (v .held) after → FeedAt h chunk out₀ after out' v (used + 1)
+    goes-on : (Whole s → ⊥) → (out' : List ℕ) → out' ≡ out → (v : Unfinished) → Holds after v → kept s ≡ take (v .held) after → FeedAt h chunk out₀ after out' v (used + 1)
     goes-on faulty out' unchanged v holding is =
         record {
           size = size;
@@ -85,7 +85,7 @@ module _ {h chunk out₀ memory out : List ℕ} {u : Unfinished} {used : ℕ} (a
         }
 
     -- a stream that is still unfinished
-    on-unfinished : Holding after u' → take (u' .held) after ≡ s → FeedAt h chunk out₀ after out u' (used + 1)
+    on-unfinished : Holds after u' → take (u' .held) after ≡ s → FeedAt h chunk out₀ after out u' (used + 1)
     on-unfinished holding is =
         let long : length s ≡ u' .held = sym (ap length is) ∙ length-take-le (u' .held) after (omega (arith, size, holding-room after u' holding)) in
         let short : length s < streamLength s = omega (arith, long, holding .short, holding .announced, ap streamLength is) in

@@ -11,17 +11,17 @@ use lib.Seq.{take-suc-set, take-all, length-take-le}
 use Rattle.stream.specs.Layout.{streamLength}
 use Rattle.stream.proofs.Lengths.{length-early, length-grows, length-next}
 use Rattle.receiver.specs.Holding.{extended, kept}
-use Rattle.receiver.specs.Stage.{Holding, Restored, TookByte, unfinished, full}
+use Rattle.receiver.specs.Stage.{Holds, Restored, TookByte, unfinished, full}
 use Rattle.receiver.specs.declared.buffer.Unfinished.{Unfinished}
 use Rattle.receiver.proofs.Extending.{extended-sync, extended-high, extended-none, extended-low, same-high, kept-short, kept-long, kept-most}
 
-pub holding-nothing : (memory : List ℕ) → Holding memory (record { held = 0; least = 6 })
+pub holding-nothing : (memory : List ℕ) → Holds memory (record { held = 0; least = 6 })
 holding-nothing memory =
     let six = length-early [] (omega arith) in
     record { short = omega arith; announced = omega (arith, six); most = omega (arith, six) }
 
 -- there is room for one more
-pub holding-room : (memory : List ℕ) (u : Unfinished) → Holding memory u → u .held < 772
+pub holding-room : (memory : List ℕ) (u : Unfinished) → Holds memory u → u .held < 772
 holding-room memory u holding = omega (arith, holding .short, holding .announced, holding .most)
 
 -- ── what a state holds
@@ -71,11 +71,11 @@ high-alone h byte after u high (full a b is c) = full a b (is ∙ sym (same-high
 
 -- ── a low byte
 
-pub low-unused : (memory : List ℕ) (byte : ℕ) (u : Unfinished) → byte < 0x80 → u .held ≡ 0 → Holding memory u → TookByte (take (u .held) memory) byte memory u
+pub low-unused : (memory : List ℕ) (byte : ℕ) (u : Unfinished) → byte < 0x80 → u .held ≡ 0 → Holds memory u → TookByte (take (u .held) memory) byte memory u
 low-unused memory byte u low none holding =
     unfinished holding (ap (λ (n : ℕ). take n memory) none ∙ sym (extended-none (take (u .held) memory) byte low (rw none refl)))
 
-module _ (memory : List ℕ) (byte : ℕ) (u : Unfinished) (size : length memory ≡ 772) (holding : Holding memory u) (some : 0 < u .held) (low : byte < 0x80) where
+module _ (memory : List ℕ) (byte : ℕ) (u : Unfinished) (size : length memory ≡ 772) (holding : Holds memory u) (some : 0 < u .held) (low : byte < 0x80) where
   abbrev n : ℕ
   n = u .held
 

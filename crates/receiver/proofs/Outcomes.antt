@@ -16,7 +16,7 @@ use Rattle.recording.specs.Recording.{Delivery, deliveryAt, deliveriesFrom}
 use Rattle.recording.proofs.Deliveries.{Whole}
 use Rattle.receiver.specs.Holding.{extended, kept}
 use Rattle.receiver.specs.Receive.{Outcome, oneMore, outcomeOf}
-use Rattle.receiver.proofs.Extending.{extended-by, kept-by, kept-long}
+use Rattle.receiver.proofs.Extending.{extended-by, kept-by, kept-long, kept-most}
 use Rattle.receiver.proofs.Steps.{Held, none, onward, few-whole, completes}
 
 -- ── one byte
@@ -107,17 +107,32 @@ follows h chunk = outcome-ind (λ (h chunk : List ℕ) (o : Outcome). Held h →
 
 -- ── how many bytes are used, and which
 
--- with no record all bytes are used; one at least, if there is one
-pub record Uses (chunk : List ℕ) (o : Outcome) : Type 0 where
+-- with no record all bytes are used; one at least, if there is one; and what is held fits the memory
+pub record Uses (h chunk : List ℕ) (o : Outcome) : Type 0 where
   pub within : o .used ≤ length chunk
   pub some : 0 < length chunk → 0 < o .used
   pub all : (Whole (o .stream) → ⊥) → o .used ≡ length chunk
+  pub less : length h < 772 → length (o .held) < 772
 
-pub uses : (h chunk : List ℕ) → Uses chunk (outcomeOf h chunk)
-uses h chunk = outcome-ind (λ (h chunk : List ℕ) (o : Outcome). Uses chunk o)
-    (λ h. record { within = omega arith; some = λ more. more; all = λ none. refl })
-    (λ h byte rest w. record { within = omega arith; some = λ more. omega arith; all = λ none. absurd (none w) })
-    (λ h byte rest faulty o then. record { within = omega (arith, then .within); some = λ more. omega arith; all = λ none. ap suc (then .all none) })
+pub kept-less : (s : List ℕ) → length (kept s) < 772
+kept-less s =
+    dite (decLt (length s) (streamLength s))
+    (λ short. dite (decLt 772 (streamLength s))
+    (λ far. rw (kept-most s far) (omega arith))
+    (λ most. kept-by (λ (l : List ℕ). length l < 772) s (omega arith) (omega arith)))
+    (λ long. rw (kept-long s (omega arith)) (omega arith))
+
+pub uses : (h chunk : List ℕ) → Uses h chunk (outcomeOf h chunk)
+uses h chunk = outcome-ind Uses
+    (λ h. record { within = omega arith; some = λ more. more; all = λ none. refl; less = λ fits. fits })
+    (λ h byte rest w. record { within = omega arith; some = λ more. omega arith; all = λ none. absurd (none w); less = λ fits. omega arith })
+    (λ h byte rest faulty o then.
+    record {
+      within = omega (arith, then .within);
+      some = λ more. omega arith;
+      all = λ none. ap suc (then .all none);
+      less = λ fits. then .less (kept-less (extended h byte));
+    })
     h chunk
 
 -- what is delivered, or held, is the last of the bytes that were held before and used since

@@ -3,10 +3,10 @@ use Prim.Native.Nat.{ℕ, zero, suc, _+_, _<_, _≤_}
 use native.Mathlib.Omega.{arith}
 use native.Mathlib.Nat.{add-zero}
 use native.Mathlib.Decide.{decLt, ℕ-discrete}
-use mathlib.Core.Path.{_≡_, refl, sym, ap, _∙_}
+use mathlib.Core.Path.{_≡_, refl, sym, ap, subst, _∙_}
 use mathlib.Core.Logic.{dite}
 use mathlib.Core.List.{List, [], _∷_, _++_, append-nil}
-use lib.ListN.{length, take, drop, length-drop}
+use lib.ListN.{length, take, drop, length-append, length-drop, take-append-drop}
 use lib.Seq.{take-append-seam}
 use Rattle.basics.specs.Bytes.{over}
 use Rattle.basics.specs.Choice.{choose}
@@ -18,13 +18,13 @@ use Rattle.recording.specs.Recording.{Delivery, deliveriesFrom, contentsOf, rec
 use Rattle.recording.proofs.Decoding.{beginning-whole, beginning-none}
 use Rattle.receiver.specs.Holding.{kept}
 use Rattle.receiver.specs.Receive.{Outcome, outcomeOf, heldIn, outcomeIn, acceptedOf, receivedOf, outputAfter, resetOf}
-use Rattle.receiver.specs.Feeding.{fresh, Called, deliveredIn, Run, ended, used-up, call, joined}
+use Rattle.receiver.specs.Feeding.{fresh, Called, deliveredIn, Run, ended, call}
 use Rattle.receiver.specs.declared.Receiver.{Receiver}
 use Rattle.receiver.specs.declared.Received.{Received}
 use Rattle.receiver.proofs.Extending.{kept-early}
 use Rattle.receiver.proofs.Steps.{Held, none, held-kept, held-nothing}
 use Rattle.receiver.proofs.Outcomes.{deliveredAt, delivered-whole, delivered-none, follows, uses}
-use Rattle.receiver.proofs.Answers.{accepted, accepted-exactly, refused-exactly, refused-nothing, answer-is, output-is, memory-is}
+use Rattle.receiver.proofs.Answers.{accepted, accepted-exactly, refused-exactly, refused-nothing, received-used, answer-is, output-is, memory-is}
 
 -- ── what one call delivers
 
@@ -87,42 +87,52 @@ module _ {receiver : Receiver} {memory chunk out : List ℕ} {answer : Received}
 -- ── any number of calls
 
 -- from a state that holds h, which stands from p on
-run-deliveries : {before : ℕ} {receiver : Receiver} {memory : List ℕ} {chunks : List (List ℕ)} {ds : List Delivery} (p : ℕ) (h : List ℕ)
-    → heldIn receiver memory ≡ h → Held h → p + length h ≡ before → Run before receiver memory chunks ds → ds ≡ deliveriesFrom p (h ++ joined chunks)
+run-deliveries : {before : ℕ} {receiver : Receiver} {memory bytes : List ℕ} {ds : List Delivery} (p : ℕ) (h : List ℕ)
+    → heldIn receiver memory ≡ h → Held h → p + length h ≡ before → Run before receiver memory bytes ds → ds ≡ deliveriesFrom p (h ++ bytes)
 run-deliveries p h is held from ended = sym (ap (deliveriesFrom p) (append-nil h) ∙ held-nothing p h held)
-run-deliveries p h is held from (used-up run) = run-deliveries p h is held from run
-run-deliveries {before} p h is held from (call {chunks = rest} chunk out answer out' memory' called run) =
+run-deliveries {before} p h is held from (call chunk later out answer out' memory' cut called run) =
     let next = continues called p before h is held from in
     let more = run-deliveries (next .place) (next .k) (next .is) (next .held) (next .there) run in
-    ap (λ (ds : List Delivery). deliveredIn (before + answer .used) answer out' ++ ds) more ∙ sym (next .same (joined rest))
+    ap (λ (ds : List Delivery). deliveredIn (before + answer .used) answer out' ++ ds) more
+    ∙ sym (ap (λ (l : List ℕ). deliveriesFrom p (h ++ l)) cut ∙ next .same later)
 
 -- a receiver that is reset, whatever it held, delivers from there on as on a recording that begins at that byte
-pub reset-fresh : (before : ℕ) (receiver : Receiver) (memory : List ℕ) (chunks : List (List ℕ)) (ds : List Delivery)
-    → Run before (resetOf receiver) memory chunks ds → ds ≡ deliveriesFrom before (joined chunks)
-reset-fresh before receiver memory chunks ds run = run-deliveries before [] (kept-early [] (omega arith)) none (add-zero before) run
+pub reset-fresh : (before : ℕ) (receiver : Receiver) (memory bytes : List ℕ) (ds : List Delivery)
+    → Run before (resetOf receiver) memory bytes ds → ds ≡ deliveriesFrom before bytes
+reset-fresh before receiver memory bytes ds run = run-deliveries before [] (kept-early [] (omega arith)) none (add-zero before) run
 
--- a recording that is fed to a fresh receiver until it is used up gives exactly its deliveries, in order, however it was cut: each stream
+-- and answers each call as a fresh one does, whatever stands in the memory of either
+pub reset-answers : (receiver : Receiver) (memory memory' chunk out : List ℕ)
+    → (receivedOf (resetOf receiver) memory chunk (length out) ≡ receivedOf fresh memory' chunk (length out))
+    × (outputAfter (resetOf receiver) memory chunk out ≡ outputAfter fresh memory' chunk out)
+reset-answers receiver memory memory' chunk out = (refl, refl)
+
+-- a recording that is fed to a fresh receiver until it is used up gives exactly its deliveries, in order, however it is cut: each stream
 -- ends with the last byte used
-pub received-deliveries : (memory : List ℕ) (chunks : List (List ℕ)) (ds : List Delivery) → Run 0 fresh memory chunks ds → ds ≡ deliveriesFrom 0 (joined chunks)
-received-deliveries memory chunks ds run = reset-fresh 0 fresh memory chunks ds run
+pub received-deliveries : (memory recording : List ℕ) (ds : List Delivery) → Run 0 fresh memory recording ds → ds ≡ deliveriesFrom 0 recording
+received-deliveries memory recording ds run = reset-fresh 0 fresh memory recording ds run
 
 -- so it gives exactly its records
-pub received-records : (memory : List ℕ) (chunks : List (List ℕ)) (ds : List Delivery) → Run 0 fresh memory chunks ds → contentsOf ds ≡ records (joined chunks)
-received-records memory chunks ds run = ap contentsOf (received-deliveries memory chunks ds run)
+pub received-records : (memory recording : List ℕ) (ds : List Delivery) → Run 0 fresh memory recording ds → contentsOf ds ≡ records recording
+received-records memory recording ds run = ap contentsOf (received-deliveries memory recording ds run)
 
--- ── any chunks can be used up, from any state and with any memory
+-- ── any recording can be used up, from any state and with any memory, in chunks of any length
 
-module _ (out : List ℕ) (room : 508 ≤ length out) where
-  abbrev Fed : List (List ℕ) → Type 0
-  Fed chunks = (before : ℕ) (receiver : Receiver) (memory : List ℕ) → (ds : List Delivery) × Run before receiver memory chunks ds
+-- a way to cut: how many bytes, but for one, a call is handed of those that are left
+abbrev Cut : Type 0
+Cut = List ℕ → ℕ
 
-  none-left : (chunk : List ℕ) (chunks : List (List ℕ)) → length chunk ≡ 0 → Fed chunks → Fed (chunk ∷ chunks)
-  none-left [] chunks empty rest before receiver memory = let (ds, run) = rest before receiver memory in (ds, used-up run)
-  none-left (byte ∷ more) chunks empty rest before receiver memory = absurd (omega arith)
+module _ (cut : Cut) (out : List ℕ) (room : 508 ≤ length out) where
+  abbrev Fed : List ℕ → Type 0
+  Fed bytes = (before : ℕ) (receiver : Receiver) (memory : List ℕ) → (ds : List Delivery) × Run before receiver memory bytes ds
+
+  none-left : (bytes : List ℕ) → length bytes ≡ 0 → Fed bytes
+  none-left [] empty before receiver memory = ([], ended)
+  none-left (byte ∷ rest) empty before receiver memory = absurd (omega arith)
 
   -- one call, which uses a byte at least
-  some-left : (chunk : List ℕ) (chunks : List (List ℕ)) → 0 < length chunk → ((n : ℕ) → 0 < n → Fed (drop n chunk ∷ chunks)) → Fed (chunk ∷ chunks)
-  some-left chunk chunks some rest before receiver memory =
+  one-call : (chunk later : List ℕ) → 0 < length chunk → ((n : ℕ) → 0 < n → Fed (drop n chunk ++ later)) → Fed (chunk ++ later)
+  one-call chunk later some rest before receiver memory =
       let o = outcomeIn receiver memory chunk in
       let answer = receivedOf receiver memory chunk (length out) in
       let out' = outputAfter receiver memory chunk out in
@@ -136,19 +146,25 @@ module _ (out : List ℕ) (room : 508 ≤ length out) where
           held = λ zero. take-append-seam (o .held) (drop (length (o .held)) memory);
         };
       } in
-      let accept = accepted-exactly receiver memory chunk (length out) .1 room in
-      let used : answer .used ≡ o .used = ap (λ (r : Received). r .used) (answer-is called accept) in
-      let (ds, run) = rest (answer .used) (omega (arith, used, uses (heldIn receiver memory) chunk .some some)) (before + answer .used) (answer .receiver) memory' in
-      (_, call chunk out answer out' memory' called run)
+      let used = received-used called (accepted-exactly receiver memory chunk (length out) .1 room) in
+      let (ds, run) = rest (answer .used) (used .some some) (before + answer .used) (answer .receiver) memory' in
+      (_, call chunk later out answer out' memory' refl called run)
 
-  fed-chunk : (fuel : ℕ) (chunk : List ℕ) (chunks : List (List ℕ)) → length chunk ≤ fuel → Fed chunks → Fed (chunk ∷ chunks)
-  fed-chunk zero chunk chunks enough rest = none-left chunk chunks (omega arith) rest
-  fed-chunk (suc fuel) chunk chunks enough rest =
-      dite (decLt 0 (length chunk))
-      (λ some. some-left chunk chunks some (λ n pos. fed-chunk fuel (drop n chunk) chunks (omega (arith, length-drop n chunk)) rest))
-      (λ empty. none-left chunk chunks (omega arith) rest)
+  fed : (fuel : ℕ) (bytes : List ℕ) → length bytes ≤ fuel → Fed bytes
+  fed zero bytes enough = none-left bytes (omega arith)
+  fed (suc fuel) bytes enough =
+      dite (decLt 0 (length bytes))
+      (λ some.
+      let n = suc (cut bytes) in
+      let chunk = take n bytes in
+      let later = drop n bytes in
+      let whole : chunk ++ later ≡ bytes = take-append-drop n bytes in
+      let sum = sym (length-append chunk later) ∙ ap length whole in
+      subst Fed whole
+      (one-call chunk later (omega (arith, sum, length-drop n bytes))
+      (λ used pos. fed fuel (drop used chunk ++ later) (omega (arith, sum, length-drop n bytes, length-append (drop used chunk) later, length-drop used chunk)))))
+      (λ none. none-left bytes (omega arith))
 
   -- so a run over a recording is there, and comes to its end
-  pub run-exists : (chunks : List (List ℕ)) → Fed chunks
-  run-exists [] before receiver memory = ([], ended)
-  run-exists (chunk ∷ chunks) before receiver memory = fed-chunk (length chunk) chunk chunks (omega arith) (run-exists chunks) before receiver memory
+  pub run-exists : (bytes : List ℕ) → Fed bytes
+  run-exists bytes = fed (length bytes) bytes (omega arith)

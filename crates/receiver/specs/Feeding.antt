@@ -1,4 +1,4 @@
--- A receiver that is fed chunk by chunk: what any sequence of calls delivers.
+-- A receiver that is fed a recording as it arrives: what any sequence of calls delivers.
 use Prim.Native.Nat.{ℕ, _+_, _-_}
 use mathlib.Core.Path.{_≡_}
 use mathlib.Core.List.{List, [], _∷_, _++_}
@@ -30,20 +30,12 @@ deliveredIn end answer out =
     } ∷ [])
     []
 
--- calls that use up the chunks one after the other, and what they deliver: each chunk is handed over again from where the receiver stopped,
--- also after a refusal. So many bytes were used before; what the output holds before a call, and its room, may be anything
-pub data Run : ℕ → Receiver → List ℕ → List (List ℕ) → List Delivery → Type 0 where
+-- calls that use up the bytes of a recording, and what they deliver. Each call is handed a chunk, any part that the bytes not used yet begin
+-- with; it may be refused. So many bytes were used before; what the output holds before a call, and its room, may be anything
+pub data Run : ℕ → Receiver → List ℕ → List ℕ → List Delivery → Type 0 where
   ended : {before : ℕ} {receiver : Receiver} {memory : List ℕ} → Run before receiver memory [] []
-  used-up : {before : ℕ} {receiver : Receiver} {memory : List ℕ} {chunks : List (List ℕ)} {ds : List Delivery}
-      → Run before receiver memory chunks ds
-      → Run before receiver memory ([] ∷ chunks) ds
-  call : {before : ℕ} {receiver : Receiver} {memory : List ℕ} {chunks : List (List ℕ)} {ds : List Delivery}
-      (chunk out : List ℕ) (answer : Received) (out' memory' : List ℕ)
+  call : {before : ℕ} {receiver : Receiver} {memory bytes : List ℕ} {ds : List Delivery} (chunk later out : List ℕ) (answer : Received) (out' memory' : List ℕ)
+      → bytes ≡ chunk ++ later
       → Called receiver memory chunk out answer out' memory'
-      → Run (before + answer .used) (answer .receiver) memory' (drop (answer .used) chunk ∷ chunks) ds
-      → Run before receiver memory (chunk ∷ chunks) (deliveredIn (before + answer .used) answer out' ++ ds)
-
--- the recording that was cut into the chunks
-abbrev pub joined : List (List ℕ) → List ℕ
-joined [] = []
-joined (chunk ∷ rest) = chunk ++ joined rest
+      → Run (before + answer .used) (answer .receiver) memory' (drop (answer .used) chunk ++ later) ds
+      → Run before receiver memory bytes (deliveredIn (before + answer .used) answer out' ++ ds)

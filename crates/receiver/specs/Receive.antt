@@ -33,7 +33,7 @@ outcomeOf held (byte ∷ rest) =
     (record { stream = extended held byte; held = []; used = 1 })
     (oneMore (outcomeOf (kept (extended held byte)) rest))
 
--- the bytes that a state holds: nothing, where those in the memory are no unfinished stream and so no calls lead to it
+-- the bytes that a state holds: as many as it says, if by their length they are an unfinished stream; else none, and no calls lead to it
 abbrev pub heldIn : Receiver → List ℕ → List ℕ
 heldIn receiver memory = kept (take (receiver .held) memory)
 

@@ -8,17 +8,17 @@ use Rattle.receiver.specs.Holding.{extended, kept}
 use Rattle.receiver.specs.declared.buffer.Unfinished.{Unfinished}
 
 -- the first bytes of the memory are held, an unfinished stream of which it is known that it has no fewer than `least` bytes
-pub record Holding (memory : List ℕ) (u : Unfinished) : Type 0 where
+pub record Holds (memory : List ℕ) (u : Unfinished) : Type 0 where
   pub short : u .held < u .least
   pub announced : u .least ≤ streamLength (take (u .held) memory)
   pub most : streamLength (take (u .held) memory) ≤ 772
 
 -- the bytes that it holds are those that a state with n bytes in the memory holds
 pub record Restored (memory : List ℕ) (n : ℕ) (u : Unfinished) : Type 0 where
-  pub holding : Holding memory u
+  pub holding : Holds memory u
   pub bytes : take (u .held) memory ≡ kept (take n memory)
 
 -- what a byte did to the held bytes h: with it they are unfinished, or as long as they announce
 pub data TookByte (h : List ℕ) (byte : ℕ) (after : List ℕ) (u : Unfinished) : Type 0 where
-  unfinished : Holding after u → take (u .held) after ≡ extended h byte → TookByte h byte after u
+  unfinished : Holds after u → take (u .held) after ≡ extended h byte → TookByte h byte after u
   full : u .held ≡ u .least → u .held ≤ 772 → take (u .held) after ≡ extended h byte → streamLength (extended h byte) ≡ u .held → TookByte h byte after u

@@ -3,7 +3,7 @@ ghost use mathlib.Core.Path.{_≡_};
 ghost use Prim.Native.Nat.{_≤_, _<_};
 ghost use mathlib.Core.List.{[]};
 ghost use lib.ListN.{length, take};
-ghost use Rattle.receiver.specs.Stage.{Holding, Restored, TookByte};
+ghost use Rattle.receiver.specs.Stage.{Holds, Restored, TookByte};
 use crate::length::announced;
 
 // How many bytes are held, and how many their stream has at least: the announced length is looked up again only when so many are held.
@@ -52,7 +52,7 @@ fn begin(memory: &mut [u8], byte: u8) -> Unfinished
 
 // A byte below 0x80 behind those held.
 fn add(memory: &mut [u8], state: Unfinished, byte: u8) -> Unfinished
-    requires { ⌜ (length (now memory) ≡ 772) × (Holding (now memory) state × ((0 < state .held) × (byte < 0x80))) ⌝ }
+    requires { ⌜ (length (now memory) ≡ 772) × (Holds (now memory) state × ((0 < state .held) × (byte < 0x80))) ⌝ }
     ensures { λ r. ⌜ TookByte (take (state .held) (now (memory .entry))) byte (now (memory .exit)) r ⌝ }
 {
     let held = state.held;
@@ -72,7 +72,7 @@ fn add(memory: &mut [u8], state: Unfinished, byte: u8) -> Unfinished
 
 // Takes in one byte.
 pub fn take_byte(memory: &mut [u8], state: Unfinished, byte: u8) -> Unfinished
-    requires { ⌜ (length (now memory) ≡ 772) × Holding (now memory) state ⌝ }
+    requires { ⌜ (length (now memory) ≡ 772) × Holds (now memory) state ⌝ }
     ensures { λ r. ⌜ TookByte (take (state .held) (now (memory .entry))) byte (now (memory .exit)) r ⌝ }
 {
     if byte >= 0x80 {

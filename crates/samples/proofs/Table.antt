@@ -180,6 +180,7 @@ receptions =
     ∷ (receive 7 p1 (0x80 ∷ drop 7 p1) 508, noneReceived 0 10 0 508)
     ∷ (receive 15 p1 (0x64 ∷ p1) 508, p1Received 17)
     ∷ (receive 16 p1 (0x00 ∷ []) 508, noneReceived 0 1 0 508)
+    ∷ (receive 3 (0x01 ∷ 0x02 ∷ 0x03 ∷ []) (0x04 ∷ []) 508, noneReceived 0 1 4 508)
     ∷ (receive 800 (p1 ++ replicate 756 0) [] 508, noneReceived 0 0 0 508)
     ∷ (receive 9 (bytes 9 0xAA114410_66100002_7F) [] 508, noneReceived 0 0 9 508)
     ∷ (receive 9 (bytes 9 0xAA114410_66100002_80) [] 508, noneReceived 0 0 0 508)

@@ -98,10 +98,10 @@ pub fn next(recording: &[u8], start: usize, room: usize) {
     kept(&out, answer.payload_length);
 }
 
-// The record that the byte with this number completed: the number, its stream's length, and itself.
-fn received(answer: receiver::Received, number: usize, payload: &[u8]) {
+// A record that was completed with so many bytes: their number, its stream's length, and itself.
+fn received(answer: receiver::Received, used: usize, payload: &[u8]) {
     if answer.found {
-        field::number(number as u64);
+        field::number(used as u64);
         field::number(answer.length as u64);
         field::record(answer.header, part::first(payload, answer.payload_length));
     }

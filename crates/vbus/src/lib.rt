@@ -1,4 +1,4 @@
-// The C library. Each export is a call of one proved function, whose struct it hands on, and has that function's contract.
+// The C library. Each export is a call of one proved function, whose answer it hands on, and has that function's contract.
 // include/vbus.h declares them.
 mod block_packets;
 mod receivers;

@@ -11,7 +11,8 @@ without-requires c κs = search needs
 returns : tie.Need-returns
 returns c =
     let args = c .before .before .before .before .args in
-    rw (c .without .ensures) (refused-all (args .receiver) (args .memory .now) (args .chunk .now) (args .out .now) (omega arith))
+    let called = refused-all (args .receiver) (args .memory .now) (args .chunk .now) (args .out .now) (omega arith) in
+    rw (c .without .ensures) (called .answers, (called .output, called .remembers))
 
 feed-requires : tie.Need-feed-requires
 feed-requires c κs = search needs
@@ -23,7 +24,8 @@ returns-2 : tie.Need-returns-2
 returns-2 c =
     let args = c .before .before .before .before .before .before .before .before .args in
     let feed = c .before .before .feed in
-    accepted-all (args .receiver) (args .memory .now) (args .chunk .now) (args .out .now) (feed .result) (feed .last .1 .1 .1 .0) (feed .last .0) (omega arith) (feed .ensures .0) (feed .ensures .1 .0) (feed .ensures .1 .1)
+    let called = accepted-all (args .receiver) (args .memory .now) (args .chunk .now) (args .out .now) (feed .result) (feed .last .1 .1 .1 .0) (feed .last .0) (omega arith) (feed .ensures .0) (feed .ensures .1 .0) (feed .ensures .1 .1) in
+    (called .answers, (called .output, called .remembers))
 
 pub receive-spec : {M : Type 1} → statement M
 receive-spec =
