@@ -14,6 +14,7 @@
 #define _POSIX_C_SOURCE 200809L /* termios, sigaction */
 #include <errno.h>
 #include <fcntl.h>
+#include <poll.h>
 #include <signal.h>
 #include <stdio.h>
 #include <string.h>
@@ -85,8 +86,8 @@ static void catch_signals(void) {
     }
 }
 
-/* 9600 8N1, raw: no translation, no echo, no flow control, no modem lines. Set from nothing, so that no system's own
- * flags stay; only what happens to the modem lines at the last close is left as it was. */
+/* 9600 8N1, raw: no translation, no echo, no flow control, no modem lines. The flags are set from nothing, so that no
+ * system's own ones stay; only what happens to the modem lines at the last close is left as it was. */
 static struct termios wanted(void) {
     struct termios settings = former;
     settings.c_iflag = 0;
@@ -138,7 +139,8 @@ static int open_source(source *from) {
     return waits ? 0 : failure(from->name);
 }
 
-/* The line is handed to the system at once. */
+/* The line is handed to the system at once. A write that failed on the way, as a terminal's does at the newline, is no
+ * longer fflush's to tell. */
 static bool print_record(vbus_header header, const uint8_t *payload, size_t n) {
     char kind = header.version == VBUS_PACKET ? 'P' : header.version == VBUS_DATAGRAM ? 'D' : 'T';
     int digits = kind == 'T' ? 2 : 4; /* a telegram's command is one byte */
@@ -147,7 +149,7 @@ static bool print_record(vbus_header header, const uint8_t *payload, size_t n) {
     if (n > 0) putchar(' ');
     for (size_t i = 0; i < n; i++) printf("%02X", (unsigned)payload[i]);
     putchar('\n');
-    return fflush(stdout) == 0;
+    return fflush(stdout) == 0 && !ferror(stdout);
 }
 
 /* Prints each record that the chunk completes; what is unfinished stays in the memory for the next chunk. */
@@ -174,18 +176,27 @@ static int close_output(void) {
 static int end(const progress *so_far) {
     if (close_output() != 0) return 1;
     if (so_far->receiver.held > 0)
-        fprintf(stderr, "watch: the input ended within a stream, bytes held: %zu\n", so_far->receiver.held);
+        fprintf(stderr, "watch: the input ended before a stream was complete, bytes held: %zu\n", so_far->receiver.held);
     if (!so_far->found && so_far->bytes > 0)
         fprintf(stderr, "watch: no record found, bytes looked at: %llu\n", so_far->bytes);
     return 0;
+}
+
+/* Reads what there is, and waits where there is nothing yet: also of a standard input that someone has set not to wait. */
+static ssize_t read_chunk(int descriptor, uint8_t *chunk, size_t room) {
+    for (;;) {
+        ssize_t n = read(descriptor, chunk, room);
+        if (n >= 0 || (errno != EINTR && errno != EAGAIN)) return n;
+        struct pollfd waiting = {descriptor, POLLIN, 0};
+        if (errno == EAGAIN) poll(&waiting, 1, -1);
+    }
 }
 
 static int watch(const source *from) {
     progress so_far = {{0}, {0}, 0, false};
     uint8_t chunk[4096];
     for (;;) {
-        ssize_t n = read(from->descriptor, chunk, sizeof chunk);
-        if (n == -1 && errno == EINTR) continue;
+        ssize_t n = read_chunk(from->descriptor, chunk, sizeof chunk);
         if (n == -1) return source_failure(from);
         if (n == 0) return from->port ? gone(from) : end(&so_far);
         if (!take_in(&so_far, chunk, (size_t)n)) return failure("standard output");

@@ -12,9 +12,10 @@
 //! written; 2 wrong use; 141 whoever read the lines has gone.
 
 use std::ffi::OsString;
-use std::fs::File;
+use std::fs::{File, OpenOptions};
 use std::io::{self, ErrorKind, IsTerminal, Read, Write};
-use std::path::PathBuf;
+use std::os::unix::fs::OpenOptionsExt;
+use std::path::{Path, PathBuf};
 use std::process::ExitCode;
 use std::{env, fmt, process};
 
@@ -28,6 +29,9 @@ command and payload in hex. A serial port is read as it is set.
 
 /// EIO, which a terminal device that is gone may answer with.
 const INPUT_OUTPUT_ERROR: i32 = 5;
+
+/// Linux's O_NOCTTY.
+const NO_CONTROLLING_TERMINAL: i32 = 0o400;
 
 /// What there is to do.
 enum Task {
@@ -78,7 +82,7 @@ fn task(mut arguments: Vec<OsString>) -> Option<Task> {
 fn run(task: Task) -> Result<(), String> {
     match task {
         Task::Help => write_out(USAGE),
-        Task::Device(name) => match File::open(&name) {
+        Task::Device(name) => match open(&name) {
             Ok(device) => {
                 let port = device.is_terminal();
                 watch(device, name.display(), port)
@@ -87,6 +91,14 @@ fn run(task: Task) -> Result<(), String> {
         },
         Task::StandardInput => watch(io::stdin().lock(), "standard input", false),
     }
+}
+
+/// Opens the device so that it doesn't become the terminal that this runs at.
+fn open(name: &Path) -> io::Result<File> {
+    OpenOptions::new()
+        .read(true)
+        .custom_flags(NO_CONTROLLING_TERMINAL)
+        .open(name)
 }
 
 fn failure(what: impl fmt::Display, error: &io::Error) -> String {
@@ -112,7 +124,7 @@ fn watch(reader: impl Read, name: impl fmt::Display, port: bool) -> Result<(), S
     let held = records.receiver().held().len();
     if held > 0 {
         say(&format!(
-            "watch: the input ended within a stream, bytes held: {held}\n"
+            "watch: the input ended before a stream was complete, bytes held: {held}\n"
         ));
     }
     let n = records.get_ref().bytes;

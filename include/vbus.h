@@ -15,7 +15,7 @@
  *    is fine.
  *  - A buffer that is written (payload of vbus_next and vbus_receive, memory, out) must not overlap another of the
  *    call: a recording can't be normalized in place.
- *  - While a call runs, nothing else writes to its buffers, nor reads the one that it writes.
+ *  - While a call runs, nothing else writes to its buffers, nor reads those that it writes.
  *
  * Refusals. `number` is 0 where the function did its work, else the number of a refusal. At each function its refusals
  * stand in the order in which they are checked; the first that applies is given. After a refusal every buffer holds
@@ -90,7 +90,7 @@ typedef struct {
 
 /* A receiver between two calls, with its memory. All zero bytes are a fresh one. */
 typedef struct {
-    size_t held; /* bytes of an unfinished stream, at the start of the memory */
+    size_t held; /* bytes of a stream that isn't complete, at the start of the memory */
 } vbus_receiver;
 
 typedef struct {
@@ -163,11 +163,12 @@ vbus_validation vbus_validate(const uint8_t *input, size_t n);
 vbus_found vbus_next(const uint8_t *input, size_t n, size_t start, uint8_t *payload, size_t room);
 
 /* Takes in bytes as they arrive, a chunk at a time, cut anyhow and possibly empty, up to the byte that completes a whole
- * stream, and reads its record; with no such byte it takes in all of them. A stream that isn't complete yet is kept in
- * `memory` for the next call, which gets the same memory and the answer's receiver; the caller leaves both alone.
+ * stream, and reads its record; with no such byte it takes in all of them. A stream that is shorter than it announces
+ * is kept in `memory` for the next call, which gets the same memory and the answer's receiver; the caller leaves both
+ * alone. Behind the bytes held, `memory` may hold anything.
  * Where found, `used` counts up to the stream's last byte: hand the rest of the chunk over in the next call. The payload
- * stands at the start of `payload`; the bytes behind it stay. Else `used` is n, `payload` stays as it was, and `found`,
- * `length`, `header` and `payload_length` are 0. Behind the bytes held, `memory` may hold anything afterwards.
+ * stands at the start of `payload`; the bytes behind it stay. Where there is none, `used` is n, `payload` stays as it
+ * was, and `length`, `header` and `payload_length` are 0.
  * A recording, fed to a fresh receiver until it is used up, gives just the records that vbus_next finds in it. Whatever
  * receiver and memory are handed in, nothing is delivered but a whole stream that ends with the last byte used.
  *   VBUS_OUTPUT_TOO_SHORT (5): room is less than VBUS_MAX_PAYLOAD, whatever this chunk brings; nothing is used */

@@ -335,8 +335,8 @@ impl Checker {
         Ok(())
     }
 
-    /// Long hostile inputs before a whole stream, in one chunk and byte by byte: constant work for a
-    /// byte answers in time.
+    /// Long hostile inputs before a whole stream, in one chunk and byte by byte. (What a byte costs is
+    /// the benchmark's to measure.)
     pub fn receive_long(&mut self) -> Checked<()> {
         let mut packet = recordings::longest(&mut self.rng);
         packet.pop();

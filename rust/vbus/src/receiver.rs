@@ -114,7 +114,8 @@ impl Receiver {
 
     /// The bytes of the unfinished stream, which the next chunk may go on with.
     ///
-    /// Bytes that no stream can begin with, and broken streams, are not kept.
+    /// A stream is kept until it is as long as it announces, also where a checksum in it is already
+    /// wrong. Bytes outside of a stream are not kept.
     pub fn held(&self) -> &[u8] {
         &self.memory[..self.state.held]
     }
@@ -207,7 +208,7 @@ impl fmt::Display for Delivered<'_> {
 /// The records that end in a chunk, in order. Made by [`Receiver::records`].
 ///
 /// Dropped before its end it uses the rest of the chunk, without the records there: so the receiver
-/// keeps up with the bytes, and a stream that the chunk leaves unfinished isn't lost. To go on with
+/// has taken in every byte, and a stream that the chunk leaves unfinished isn't lost. To go on with
 /// these records later, take [`ReceivedRecords::into_rest`].
 #[cfg(feature = "std")]
 #[derive(Debug)]
