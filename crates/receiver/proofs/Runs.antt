@@ -23,7 +23,7 @@ use Rattle.receiver.specs.declared.Receiver.{Receiver}
 use Rattle.receiver.specs.declared.Received.{Received}
 use Rattle.receiver.proofs.Extending.{kept-early}
 use Rattle.receiver.proofs.Steps.{Held, none, held-kept, held-nothing}
-use Rattle.receiver.proofs.Outcomes.{deliveredAt, delivered-whole, delivered-none, follows, uses}
+use Rattle.receiver.proofs.Outcomes.{deliveredAt, delivered-whole, delivered-none, follows}
 use Rattle.receiver.proofs.Answers.{accepted, accepted-exactly, refused-exactly, refused-nothing, received-used, answer-is, output-is, memory-is}
 
 -- ── what one call delivers
