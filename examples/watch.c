@@ -5,8 +5,9 @@
  *   gcc -std=c99 -Iinclude examples/watch.c target/staticlib/libvbus.a -o target/watch-c
  *   target/watch-c DEVICE, or target/watch-c < FILE
  *
- * A serial port is set to 9600 bits a second, 8N1, raw, and put back as it was at the end, also where a signal ends the
- * program. Nothing is ever sent. A file, a FIFO or a pipe is read as it is, up to its end.
+ * A serial port is set to 9600 bits a second, 8N1, raw, and put back as it was at the end, also where SIGHUP, SIGINT,
+ * SIGQUIT, SIGTERM or SIGPIPE ends the program. Nothing is ever sent. A file, a FIFO or a pipe is read as it is, up to
+ * its end.
  *
  * Exit status: 0 the input ended; 1 it couldn't be read or set, the device is gone, or a line couldn't be written;
  * 2 wrong use. A signal ends it as it does other programs, also where whoever reads the lines has gone.

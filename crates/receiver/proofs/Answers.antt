@@ -23,7 +23,8 @@ use Rattle.receiver.specs.Receive.{Outcome, heldIn, outcomeIn, refusal, 
 use Rattle.receiver.specs.Feeding.{fresh, Called}
 use Rattle.receiver.specs.declared.Receiver.{Receiver}
 use Rattle.receiver.specs.declared.Received.{Received}
-use Rattle.receiver.proofs.Outcomes.{uses, kept-less, last-used, kept-is-short, whole-or-none}
+use Rattle.receiver.proofs.Extending.{kept-unfinished}
+use Rattle.receiver.proofs.Outcomes.{uses, last-used, whole-or-none}
 
 -- ── by the room
 
@@ -150,7 +151,7 @@ module _ {receiver : Receiver} {memory chunk out : List ℕ} {answer : Received}
   pub received-used : UsesSome chunk answer
   received-used =
       let brings = uses (heldIn receiver memory) chunk in
-      rw answer-is (record { within = brings .within; some = brings .some; less = brings .less (kept-less (take (receiver .held) memory)) })
+      rw answer-is (record { within = brings .within; some = brings .some; less = brings .less (omega (arith, kept-unfinished (take (receiver .held) memory))) })
 
   -- with no record all bytes are used, and the output stays as it was
   pub received-none : answer .found ≡ false → (answer .used ≡ length chunk) × (out' ≡ out)
@@ -166,7 +167,7 @@ module _ {receiver : Receiver} {memory chunk out : List ℕ} {answer : Received}
       let s = o .stream in
       let w = found-whole found in
       let one = beginning-whole s w in
-      let brings = whole-or-none (heldIn receiver memory) chunk (kept-is-short (take (receiver .held) memory)) in
+      let brings = whole-or-none (heldIn receiver memory) chunk (kept-unfinished (take (receiver .held) memory) .0) in
       let is : answer ≡ answerOf (firstOf (deliveryAt 0 s ∷ [])) (o .used) (record { held = length (o .held) }) =
       answer-is ∙ ap (λ (ds : List Delivery). answerOf (firstOf ds) (o .used) (record { held = length (o .held) })) one in
       let last = last-used (heldIn receiver memory) chunk in

@@ -70,6 +70,18 @@ module _ (s : List ℕ) where
 pub kept-early : (s : List ℕ) → length s < 6 → kept s ≡ s
 kept-early s early = kept-short s (omega (arith, length-early s early)) (omega (arith, length-early s early))
 
+-- what is kept is unfinished: shorter than it announces, and it announces no more than 772
+pub kept-unfinished : (s : List ℕ) → (length (kept s) < streamLength (kept s)) × (streamLength (kept s) ≤ 772)
+kept-unfinished s =
+    dite (decLt (length s) (streamLength s))
+    (λ short. dite (decLt 772 (streamLength s))
+    (λ far. rw (kept-most s far) nothing)
+    (λ most. rw (kept-short s short (omega arith)) (short, omega arith)))
+    (λ long. rw (kept-long s (omega arith)) nothing)
+  where
+    nothing : (0 < streamLength []) × (streamLength [] ≤ 772)
+    nothing = let six = length-early [] (omega arith) in (omega (arith, six), omega (arith, six))
+
 -- all of it, or nothing
 pub kept-by : (P : List ℕ → Type 0) (s : List ℕ) → P s → P [] → P (kept s)
 unfolding kept

@@ -1,7 +1,7 @@
 -- Laws of what a chunk brings: what is left to be delivered, how many bytes are used, and that what is delivered ends with the last of them.
 use Prim.Native.Nat.{ℕ, suc, _+_, _-_, _<_, _≤_}
 use native.Mathlib.Omega.{arith}
-use native.Mathlib.Decide.{decLt, ℕ-discrete}
+use native.Mathlib.Decide.{ℕ-discrete}
 use mathlib.Core.Path.{_≡_, refl, sym, ap, _∙_}
 use mathlib.Core.Logic.{dite}
 use mathlib.Core.List.{List, [], _∷_, _++_, append-assoc, append-nil}
@@ -10,13 +10,13 @@ use lib.ListN.{length, take, drop, length-append}
 use Rattle.basics.specs.Choice.{choose}
 use Rattle.stream.specs.Layout.{streamLength}
 use Rattle.stream.specs.Validation.{validationOf, isWhole}
-use Rattle.stream.proofs.Lengths.{length-early, length-grows}
+use Rattle.stream.proofs.Lengths.{length-grows}
 use Rattle.stream.proofs.Reached.{whole-clean}
 use Rattle.recording.specs.Recording.{Delivery, deliveryAt, deliveriesFrom}
 use Rattle.recording.proofs.Deliveries.{Whole}
 use Rattle.receiver.specs.Holding.{extended, kept}
 use Rattle.receiver.specs.Receive.{Outcome, oneMore, outcomeOf}
-use Rattle.receiver.proofs.Extending.{extended-by, kept-by, kept-long, kept-most}
+use Rattle.receiver.proofs.Extending.{extended-by, kept-by, kept-unfinished}
 use Rattle.receiver.proofs.Steps.{Held, none, onward, few-whole, completes}
 
 -- ── one byte
@@ -114,14 +114,6 @@ pub record Uses (h chunk : List ℕ) (o : Outcome) : Type 0 where
   pub all : (Whole (o .stream) → ⊥) → o .used ≡ length chunk
   pub less : length h < 772 → length (o .held) < 772
 
-pub kept-less : (s : List ℕ) → length (kept s) < 772
-kept-less s =
-    dite (decLt (length s) (streamLength s))
-    (λ short. dite (decLt 772 (streamLength s))
-    (λ far. rw (kept-most s far) (omega arith))
-    (λ most. kept-by (λ (l : List ℕ). length l < 772) s (omega arith) (omega arith)))
-    (λ long. rw (kept-long s (omega arith)) (omega arith))
-
 pub uses : (h chunk : List ℕ) → Uses h chunk (outcomeOf h chunk)
 uses h chunk = outcome-ind Uses
     (λ h. record { within = omega arith; some = λ more. more; all = λ none. refl; less = λ fits. fits })
@@ -131,7 +123,7 @@ uses h chunk = outcome-ind Uses
       within = omega (arith, then .within);
       some = λ more. omega arith;
       all = λ none. ap suc (then .all none);
-      less = λ fits. then .less (kept-less (extended h byte));
+      less = λ fits. then .less (omega (arith, kept-unfinished (extended h byte)));
     })
     h chunk
 
@@ -181,12 +173,6 @@ last-used h chunk = outcome-ind (λ (h chunk : List ℕ) (o : Outcome). Last (h 
 abbrev Short : List ℕ → Type 0
 Short h = length h < streamLength h
 
-pub kept-is-short : (s : List ℕ) → Short (kept s)
-kept-is-short s =
-    dite (decLt (length s) (streamLength s))
-    (λ short. kept-by Short s short (omega (arith, length-early [] (omega arith))))
-    (λ long. rw (kept-long s (omega arith)) (omega (arith, length-early [] (omega arith))))
-
 pub record WholeOrNone (o : Outcome) : Type 0 where
   pub sized : Whole (o .stream) → validationOf (o .stream) .offset ≡ length (o .stream)
   pub none : (Whole (o .stream) → ⊥) → o .stream ≡ []
@@ -206,6 +192,6 @@ whole-or-none h chunk = outcome-ind (λ (h chunk : List ℕ) (o : Outcome). Shor
     (λ h short. record { sized = λ w. absurd (nothing-whole w); none = λ no-stream. refl; forgets = λ w. absurd (nothing-whole w) })
     (λ h byte rest w short. record { sized = extended-sized h byte short; none = λ no-stream. absurd (no-stream w); forgets = λ w. refl })
     (λ h byte rest faulty o then short.
-    let later = then (kept-is-short (extended h byte)) in
+    let later = then (kept-unfinished (extended h byte) .0) in
     record { sized = later .sized; none = later .none; forgets = later .forgets })
     h chunk

@@ -22,6 +22,7 @@ use Rattle.recording.specs.Normalize as Normals
 use Rattle.recording.specs.declared.Found.{Found}
 use Rattle.receiver.specs.Receive.{receivedOf}
 use Rattle.receiver.specs.Receive as Receptions
+use Rattle.receiver.specs.declared.Receiver.{Receiver}
 use Rattle.receiver.specs.declared.Received.{Received}
 use Rattle.sections.specs.Answer.{sectionCount, sectionFound, sectionShown, elementCount, elementFound, elementShown}
 use Rattle.sections.specs.Element.{temperatureOf}
@@ -76,6 +77,10 @@ writtenTold a = a .number ∷ a .length ∷ []
 abbrev nextTold : Found → List ℕ
 nextTold a = a .number ∷ boolTold (a .found) ∷ a .place ∷ a .length ∷ (headerTold (a .header) ++ (a .«payload_length» ∷ []))
 
+-- the state with so many bytes held
+abbrev holding : ℕ → Receiver
+holding held = record { held = held }
+
 abbrev receivedTold : Received → List ℕ
 receivedTold a = a .number ∷ boolTold (a .found) ∷ a .used ∷ a .length ∷ (headerTold (a .header) ++ (a .«payload_length» ∷ a .receiver .held ∷ []))
 
@@ -95,8 +100,7 @@ answer (carry r) = unwritable r ∷ []
 answer (encode r room) = writtenTold (encodingOf r room) ++ Encodings.outputAfter r (untouched room)
 answer (value payload) = signedTold (valueOf payload)
 answer (next s start room) = nextTold (nextOf s start room) ++ payloadAfter s start (untouched room)
-answer (receive held memory chunk room) =
-    receivedTold (receivedOf (record { held = held }) memory chunk room) ++ Receptions.outputAfter (record { held = held }) memory chunk (untouched room)
+answer (receive held memory chunk room) = receivedTold (receivedOf (holding held) memory chunk room) ++ Receptions.outputAfter (holding held) memory chunk (untouched room)
 answer (normalize s room) = writtenTold (normalizingOf s room) ++ Normals.outputAfter s (untouched room)
 answer (sections h payload) = countTold (sectionCount h payload)
 answer (section h payload k) = partTold (sectionFound h payload k) ++ sectionShown h payload k

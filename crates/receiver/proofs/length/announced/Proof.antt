@@ -1,7 +1,6 @@
 -- `receiver::length::announced` meets its contract, kind by kind. Assumes nothing.
 use native.Mathlib.Omega.{arith}
 use mathlib.Core.Path.{sym, _∙_}
-use lib.ListN.{length}
 use Rattle.stream.specs.Layout.{headerLength, frameWidth, frameCount}
 use Rattle.stream.proofs.Headers.{length-as}
 use Rattle.stream.proofs.Lengths.{length-early}
