@@ -359,10 +359,7 @@ impl Checker {
         self.every_held_and_room()?;
         self.every_announcement()?;
         self.every_two_cuts()?;
-        for length in 0..300 {
-            let block = self.rng.bytes(length);
-            self.checksum(&block)?;
-        }
+        self.every_block_length()?;
         for byte in 0..=255 {
             self.checksum(&[byte])?;
             for at in 0..6 {
@@ -370,6 +367,17 @@ impl Checker {
                 payload[at] = byte;
                 self.value(&payload)?;
             }
+        }
+        Ok(())
+    }
+
+    /// The checksum of every length up to five pieces of 256 bytes, and of a long block; the largest
+    /// bytes give the largest sums.
+    fn every_block_length(&mut self) -> Checked<()> {
+        for length in (0..=5 * 256).chain([65_537]) {
+            let block = self.rng.bytes(length);
+            self.checksum(&block)?;
+            self.checksum(&vec![0xFF; length])?;
         }
         Ok(())
     }

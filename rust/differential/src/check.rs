@@ -198,11 +198,15 @@ impl Checker {
     }
 
     pub fn checksum(&mut self, block: &[u8]) -> Checked<u8> {
-        self.same(
+        let sum = self.same(
             || format!("vbus_checksum(block = {})", hex(block)),
             || library::checksum(block),
             || reference::checksum(block),
-        )
+        )?;
+        self.holds(naive::checksum(block) == sum, || {
+            format!("checksum byte after byte of {}", hex(block))
+        })?;
+        Ok(sum)
     }
 
     pub fn value(&mut self, payload: &[u8; 6]) -> Checked<i32> {

@@ -1,12 +1,19 @@
 //! A recording's records by the rule itself: every place is tried, and every record is written
 //! anew. The reference, like the library, goes on at a fault and copies whole streams; here neither
-//! shortcut is taken. And a receiver by its rule, byte after byte, in any state.
+//! shortcut is taken. A checksum and a receiver by their rules, byte after byte, the receiver in any
+//! state.
 
 use crate::recordings::{self, MAX_PAYLOAD, MAX_STREAM};
 use reference::{Header, Received};
 
 /// The longest recording that is read this way; the work grows with the square of its length.
 pub const MOST: usize = 600;
+
+/// Starts at 0x7F, subtracts each byte and keeps the low seven bits each time.
+pub fn checksum(block: &[u8]) -> u8 {
+    let step = |sum: u8, &byte: &u8| sum.wrapping_sub(byte) % 128;
+    block.iter().fold(0x7F, step)
+}
 
 /// A record, and where its stream lies.
 #[derive(PartialEq, Debug)]
@@ -148,9 +155,7 @@ fn framed(bytes: &[u8], width: usize) -> bool {
 /// Whether the last byte is the checksum of those before it.
 fn summed(block: &[u8]) -> bool {
     let (last, before) = block.split_last().expect("there is a checksum");
-    let sum: usize = before.iter().map(|&byte| usize::from(byte)).sum();
-    // 0x7F less the sum, modulo 128.
-    (usize::from(*last) + sum) % 128 == 0x7F
+    checksum(before) == *last
 }
 
 /// The answer for the record of a whole stream that ends with byte number `used` of the chunk.
