@@ -203,8 +203,12 @@ impl Checker {
             || library::checksum(block),
             || reference::checksum(block),
         )?;
-        self.holds(naive::checksum(block) == sum, || {
-            format!("checksum byte after byte of {}", hex(block))
+        let rule = naive::checksum(block);
+        self.holds(rule == sum, || {
+            format!(
+                "byte after byte {rule} is the checksum {sum} of {}",
+                hex(block)
+            )
         })?;
         Ok(sum)
     }
