@@ -1,14 +1,14 @@
 -- Laws of the septet: lengths and bounds, and that taking top bits out and putting them back undo one another.
-use Prim.Native.Nat.{ℕ, suc, _+_, _*_, _/_, _%_, _^_, _<_, _≤_}
+use Prim.Native.Nat.{ℕ, suc, _+_, _-_, _*_, _/_, _%_, _^_, _<_, _≤_}
 use native.Mathlib.Omega.{arith}
-use native.Mathlib.Nat.{pow-succ', div-eq-of-lt, mod-one, mod-eq-of-lt, one-le-pow, div-lt-iff-lt-mul, pow-le-pow-right}
+use native.Mathlib.Nat.{pow-succ', mod-one, pow-le-pow-right, pow-suc, mul-assoc, suc-mul, zero-mul, zero-add, mul-le-mul-right}
 use native.Mathlib.Numerals.{add-one}
 use mathlib.Core.Path.{_≡_, refl, ap, _∙_, sym}
 use mathlib.Core.List.{List, [], _∷_}
 use lib.ListN.{length}
-use lib.Pow.{mod-pow-add}
+use lib.Pow.{mod-pow-add, high, pow-add, split, shr-lt}
 use Rattle.basics.specs.Bytes.{AllBelow}
-use Rattle.septet.specs.Septet.{septetOf, lowBits, withTopBits, unusedBits}
+use Rattle.septet.specs.Septet.{septetOf, lowBits, withTopBits, unusedBits, septetWith}
 
 -- ── lengths and bounds
 
@@ -37,32 +37,48 @@ unfolding septetOf
 septetOf-below [] a = omega arith
 septetOf-below (x ∷ xs) a = omega (arith, septetOf-below xs (a .1), pow-succ' 2 (length xs))
 
-pub septetOf-unused : (b : List ℕ) → AllBelow 256 b → unusedBits (length b) (septetOf b) ≡ 0
-septetOf-unused b a = div-eq-of-lt (septetOf-below b a)
-
--- a septet without unused bits
-pub unused-below : (width s : ℕ) → unusedBits width s ≡ 0 → s < 2 ^ width
-unused-below width s e =
-    let pos : 0 < 2 ^ width = one-le-pow width 2 (omega arith) in
-    let few : s / 2 ^ width < 1 = omega arith in
-    omega (arith, div-lt-iff-lt-mul pos .0 few)
-
 -- a septet of at most seven bytes has no top bit
 pub septet-below : (width s : ℕ) → width ≤ 7 → s < 2 ^ width → s < 128
 septet-below width s h l =
     let most : 2 ^ width ≤ 2 ^ 7 = pow-le-pow-right (omega arith) h in
     omega arith
 
+-- ── unused bits
+
+-- those of a septet of seven bits
+pub unused-below : (width s : ℕ) → width ≤ 7 → s < 128 → unusedBits width s < 2 ^ (7 - width)
+unused-below width s short low =
+    let seven : 7 ≡ 7 - width + width = omega arith in
+    shr-lt (7 - width) width (rw (← seven) low)
+
+module _ (unused : ℕ) (b : List ℕ) (a : AllBelow 256 b) where
+  pub septetWith-unused : unusedBits (length b) (septetWith unused b) ≡ unused
+  septetWith-unused = high unused (length b) (septetOf-below b a)
+
+  pub septetWith-below : length b ≤ 7 → unused < 2 ^ (7 - length b) → septetWith unused b < 128
+  septetWith-below short few =
+      let seven : 7 - length b + length b ≡ 7 = omega arith in
+      let all : 2 ^ (7 - length b) * 2 ^ length b ≡ 128 = sym (pow-add 2 (7 - length b) (length b)) ∙ ap (λ (n : ℕ). 2 ^ n) seven in
+      omega (arith, septetOf-below b a, suc-mul unused (2 ^ length b), mul-le-mul-right (2 ^ length b) few)
+
+-- with none it is the block's own
+pub septetWith-none : (b : List ℕ) → septetWith 0 b ≡ septetOf b
+septetWith-none b = rw (zero-mul) (zero-add (septetOf b))
+
 -- ── out and back
 
--- a block read back from its septet and its low bits
-pub withTopBits-septetOf : (b : List ℕ) → AllBelow 256 b → withTopBits (septetOf b) (lowBits b) ≡ b
+-- a block read back from its septet and its low bits: unused bits aren't looked at
+pub withTopBits-septetWith : (unused : ℕ) (b : List ℕ) → AllBelow 256 b → withTopBits (septetWith unused b) (lowBits b) ≡ b
 unfolding septetOf lowBits withTopBits
-withTopBits-septetOf [] a = refl
-withTopBits-septetOf (x ∷ xs) a =
-    let byte : x % 128 % 128 + 128 * ((x / 128 + 2 * septetOf xs) % 2) ≡ x = omega arith in
-    let above : (x / 128 + 2 * septetOf xs) / 2 ≡ septetOf xs = omega arith in
-    rw (byte, above, withTopBits-septetOf xs (a .1))
+withTopBits-septetWith unused [] a = refl
+withTopBits-septetWith unused (x ∷ xs) a =
+    let double : unused * 2 ^ suc (length xs) ≡ 2 * (unused * 2 ^ length xs) = rw (pow-suc, ← mul-assoc) (omega arith) in
+    let byte : x % 128 % 128 + 128 * ((unused * 2 ^ suc (length xs) + (x / 128 + 2 * septetOf xs)) % 2) ≡ x = omega arith in
+    let above : (unused * 2 ^ suc (length xs) + (x / 128 + 2 * septetOf xs)) / 2 ≡ septetWith unused xs = omega arith in
+    rw (byte, above, withTopBits-septetWith unused xs (a .1))
+
+pub withTopBits-septetOf : (b : List ℕ) → AllBelow 256 b → withTopBits (septetOf b) (lowBits b) ≡ b
+withTopBits-septetOf b a = rw (septetWith-none b) at (withTopBits-septetWith 0 b a)
 
 pub lowBits-withTopBits : (s : ℕ) (b : List ℕ) → AllBelow 128 b → lowBits (withTopBits s b) ≡ b
 unfolding lowBits withTopBits
@@ -72,11 +88,11 @@ lowBits-withTopBits s (x ∷ xs) a =
     rw (byte, lowBits-withTopBits (s / 2) xs (a .1))
 
 -- as many bits of the septet come back as there are bytes
-septetOf-withTopBits : (s : ℕ) (b : List ℕ) → AllBelow 128 b → septetOf (withTopBits s b) ≡ s % 2 ^ length b
+pub septetOf-withTopBits : (s : ℕ) (b : List ℕ) → AllBelow 128 b → septetOf (withTopBits s b) ≡ s % 2 ^ length b
 unfolding septetOf withTopBits
 septetOf-withTopBits s [] a = sym (mod-one s)
 septetOf-withTopBits s (x ∷ xs) a = rw (← add-one (length xs)) (omega (arith, septetOf-withTopBits (s / 2) xs (a .1), mod-pow-add s (length xs) 1))
 
--- and all of a septet without unused bits
-pub septetOf-withTopBits-used : (s : ℕ) (b : List ℕ) → AllBelow 128 b → s < 2 ^ length b → septetOf (withTopBits s b) ≡ s
-septetOf-withTopBits-used s b a h = septetOf-withTopBits s b a ∙ mod-eq-of-lt h
+-- and with the unused ones above them all
+pub septetWith-withTopBits : (s : ℕ) (b : List ℕ) → AllBelow 128 b → septetWith (unusedBits (length b) s) (withTopBits s b) ≡ s
+septetWith-withTopBits s b a = rw (length-withTopBits s b, septetOf-withTopBits s b a) (split s (length b))

@@ -1,5 +1,5 @@
 -- When `extract` and `inject` refuse, and what each answers when it is handed the other's answer. Assumes nothing.
-use Prim.Native.Nat.{ℕ, _/_, _^_, _<_, _≤_}
+use Prim.Native.Nat.{ℕ, _%_, _^_, _<_, _≤_}
 use native.Mathlib.Omega.{arith}
 use mathlib.Core.Bool.{Bool, true, false}
 use mathlib.Core.Path.{_≡_, refl, _∙_}
@@ -8,15 +8,15 @@ use mathlib.Core.List.{List, [], _∷_}
 use lib.Dec.{leb, ltb}
 use lib.ListN.{length, take}
 use lib.Seq.{length-take-le, take-at}
-use borrow.Author.Tests.{le-ltb, ltb-false, leb-false, eqb-true, not-false, lt-leb, eq-eqb}
+use borrow.Author.Tests.{le-ltb, ltb-false, leb-false, lt-leb}
 use Rattle.basics.specs.Choice.{choose}
 use Rattle.basics.specs.Bytes.{AllBelow}
 use Rattle.basics.proofs.Bytes.{all-take}
 use Rattle.basics.proofs.Choice.{neither}
 use Rattle.septet.specs.declared.Septets.{Septets}
-use Rattle.septet.specs.Septet.{septetOf, lowBits, withTopBits, unusedBits}
+use Rattle.septet.specs.Septet.{septetOf, lowBits, withTopBits}
 use Rattle.septet.specs.Answer.{refused, padded, extracted, injected, anyHigh, unfit}
-use Rattle.septet.proofs.Laws.{length-lowBits, length-withTopBits, lowBits-below, septetOf-below, septetOf-unused, septet-below, unused-below, withTopBits-septetOf, lowBits-withTopBits, septetOf-withTopBits-used}
+use Rattle.septet.proofs.Laws.{length-lowBits, length-withTopBits, lowBits-below, septetOf-below, septet-below, withTopBits-septetOf, lowBits-withTopBits, septetOf-withTopBits}
 
 -- a block that isn't refused has passed the test
 passed : (test : Bool) (block : Septets) → choose test refused block .number ≡ 0 → test ≡ false
@@ -39,17 +39,16 @@ pub extract-exactly : (bytes : List ℕ) (n : ℕ) → (extracted bytes n .numbe
 unfolding choose
 extract-exactly bytes n = ((λ e. ltb-false 7 n (passed (ltb 7 n) _ e)), (λ most. simp (le-ltb 7 n most)))
 
--- and putting back also for a used byte or the septet of 0x80 or more, and for a septet bit at or above the length
+-- and putting back also for a used byte or the septet of 0x80 or more
 pub inject-exactly : (bytes : List ℕ) (n septet : ℕ)
-    → (injected bytes n septet .number ≡ 0) ↔ ((n ≤ 7) × AllBelow 0x80 (take n bytes) × (septet < 0x80) × (septet / 2 ^ n ≡ 0))
+    → (injected bytes n septet .number ≡ 0) ↔ ((n ≤ 7) × AllBelow 0x80 (take n bytes) × (septet < 0x80))
 unfolding choose
 inject-exactly bytes n septet = (
   (λ e.
       let long = neither (ltb 7 n) _ (passed (unfit bytes n septet) _ e) in
       let high = neither (anyHigh (take n bytes)) _ (long .1) in
-      let rest = neither (leb 0x80 septet) _ (high .1) in
-      (ltb-false 7 n (long .0), below-anyHigh (take n bytes) (high .0), leb-false 0x80 septet (rest .0), eqb-true _ _ (not-false _ (rest .1)))),
-  (λ (most, low, small, unused). simp (le-ltb 7 n most, anyHigh-below (take n bytes) low, lt-leb 0x80 septet small, eq-eqb (septet / 2 ^ n) 0 unused)),
+      (ltb-false 7 n (long .0), below-anyHigh (take n bytes) (high .0), leb-false 0x80 septet (high .1))),
+  (λ (most, low, small). simp (le-ltb 7 n most, anyHigh-below (take n bytes) low, lt-leb 0x80 septet small)),
 )
 
 -- document 01: "Taking top bits out and then putting them back gives the used bytes again"
@@ -69,19 +68,18 @@ extract-inject bytes n seven a e =
       low,
       anyHigh-below (lowBits block) (lowBits-below block),
       lt-leb 0x80 (septetOf block) (septet-below n (septetOf block) most small),
-      eq-eqb _ _ (rw k at (septetOf-unused block bound)),
       withTopBits-septetOf block bound,
     )
 
--- document 01: "Putting back and then taking out gives the used bytes and the septet again"
+-- request No. 3: "putting back, then taking out, gives the used bytes and the septet without its stray bits"
 pub inject-extract : (bytes : List ℕ) (n septet : ℕ) → length bytes ≡ 7 → injected bytes n septet .number ≡ 0
     → extracted (injected bytes n septet .bytes) (injected bytes n septet .length)
-    ≡ record { number = 0; bytes = padded n (take n bytes); length = n; septet = septet }
+    ≡ record { number = 0; bytes = padded n (take n bytes); length = n; septet = septet % 2 ^ n }
 unfolding choose
 inject-extract bytes n septet seven e =
     let block = take n bytes in
-    let (most, bound, small, unused) = inject-exactly bytes n septet .0 e in
+    let (most, bound, small) = inject-exactly bytes n septet .0 e in
     let k : length block ≡ n = length-take-le n bytes (omega arith) in
-    let used : septet < 2 ^ length block = rw k (unused-below n septet unused) in
+    let used : septetOf (withTopBits septet block) ≡ septet % 2 ^ n = rw k at (septetOf-withTopBits septet block bound) in
     let full : take n (padded n (withTopBits septet block)) ≡ withTopBits septet block = take-at (withTopBits septet block) _ n (length-withTopBits septet block ∙ k) in
-    rw (passed (unfit bytes n septet) _ e) (simp (le-ltb 7 n most, full, lowBits-withTopBits septet block bound, septetOf-withTopBits-used septet block bound used))
+    rw (passed (unfit bytes n septet) _ e) (simp (le-ltb 7 n most, full, lowBits-withTopBits septet block bound, used))

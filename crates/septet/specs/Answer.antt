@@ -1,11 +1,11 @@
 -- What is answered for a block of at most seven bytes.
 use Prim.Native.Nat.{ℕ, _-_}
-use mathlib.Core.Bool.{Bool, false, _||_, not}
+use mathlib.Core.Bool.{Bool, false, _||_}
 use mathlib.Core.List.{List, [], _∷_, _++_}
-use lib.Dec.{ltb, leb, eqb}
+use lib.Dec.{ltb, leb}
 use lib.ListN.{take, replicate}
 use Rattle.basics.specs.Choice.{choose}
-use Rattle.septet.specs.Septet.{septetOf, lowBits, withTopBits, unusedBits}
+use Rattle.septet.specs.Septet.{septetOf, lowBits, withTopBits}
 use Rattle.septet.specs.declared.Septets.{Septets}
 
 -- document 01: a refused block comes back with length, septet and all bytes zero
@@ -27,10 +27,9 @@ unfoldable pub anyHigh : List ℕ → Bool
 anyHigh [] = false
 anyHigh (byte ∷ rest) = leb 0x80 byte || anyHigh rest
 
--- document 01's refusal 7 for putting back, clause by clause
+-- document 01's refusal 7 for putting back, clause by clause; request No. 3 takes its last one, of unused septet bits, away
 abbrev pub unfit : List ℕ → ℕ → ℕ → Bool
-unfit bytes n septet =
-    ltb 7 n || (anyHigh (take n bytes) || (leb 0x80 septet || not (eqb (unusedBits n septet) 0)))
+unfit bytes n septet = ltb 7 n || (anyHigh (take n bytes) || leb 0x80 septet)
 
 -- document 01's "putting them back", to the first n bytes; the septet is used up
 abbrev pub injected : List ℕ → ℕ → ℕ → Septets

@@ -46,7 +46,7 @@ pub fn extract(bytes: [u8; 7], used: usize) -> Septets
     }
 }
 
-// The first `used` bytes with the septet's bits as their top bits.
+// The first `used` bytes with the septet's bits as their top bits. Septet bits that stand for no byte are ignored.
 pub fn inject(bytes: [u8; 7], used: usize, septet: u8) -> Septets
     ensures { λ r. ⌜ r ≡ injected bytes used septet ⌝ }
 {
@@ -67,9 +67,6 @@ pub fn inject(bytes: [u8; 7], used: usize, septet: u8) -> Septets
         full[i] = byte + 128 * (rest % 2);
         rest = rest / 2;
         i += 1;
-    }
-    if rest != 0 {
-        return refused();
     }
     Septets {
         number: 0,

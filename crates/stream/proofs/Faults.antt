@@ -12,10 +12,9 @@ use lib.Seq.{getD-take, getD-drop, take-take}
 use Rattle.basics.specs.Choice.{choose}
 use Rattle.basics.proofs.Choice.{equal-of-zero}
 use Rattle.checksum.specs.Checksum.{checksumOf}
-use Rattle.septet.specs.Septet.{unusedBits}
 use Rattle.stream.specs.Layout.{kind, headerLength, frameWidth}
 use Rattle.stream.specs.declared.Kind.{Kind}
-use Rattle.stream.specs.Validation.{Rule, any, unknown, septet, headerSum, frameSum, frameRule, headerRule, ruleAt, breach, faultAt}
+use Rattle.stream.specs.Validation.{Rule, any, unknown, headerSum, frameSum, frameRule, headerRule, ruleAt, breach, faultAt}
 use Rattle.stream.specs.Stage.{Clean, Reached, ended, found, frameFault, FirstHigh}
 
 -- ── a rule's fault, from what stands there, and back
@@ -27,19 +26,6 @@ breach-any rule s k e = rw e
 pub unknown-held : (s : List ℕ) (k : ℕ) → breach unknown s k ≡ 0 → ⊥
 unfolding breach
 unknown-held s k e = omega arith
-
-module _ (width : ℕ) (s : List ℕ) (k : ℕ) where
-  pub septet-right : unusedBits width (getD s k 0) ≡ 0 → breach (septet width) s k ≡ 0
-  unfolding breach choose
-  septet-right e = simp (eq-eqb _ _ e)
-
-  pub septet-wrong : (unusedBits width (getD s k 0) ≡ 0 → ⊥) → breach (septet width) s k ≡ 5
-  unfolding breach choose
-  septet-wrong e = simp (ne-eqb _ _ e)
-
-  pub septet-held : breach (septet width) s k ≡ 0 → unusedBits width (getD s k 0) ≡ 0
-  unfolding breach
-  septet-held e = equal-of-zero _ 0 5 (omega arith) e
 
 module _ (n : ℕ) (s : List ℕ) (k : ℕ) where
   pub headerSum-right : getD s k 0 ≡ checksumOf (take n (drop 1 s)) → breach (headerSum n) s k ≡ 0
@@ -73,23 +59,17 @@ module _ (width : ℕ) (s : List ℕ) (a : ℕ) where
 
 -- ── the places of a frame
 
-pub place-any : (width i : ℕ) → i < width → frameRule width i ≡ any
+pub place-any : (width i : ℕ) → i < width + 1 → frameRule width i ≡ any
 unfolding frameRule choose
-place-any width i h = simp (ne-eqb i width (λ e. omega arith), ne-eqb i (width + 1) (λ e. omega arith))
-
-pub place-septet : (width : ℕ) → frameRule width width ≡ septet width
-unfolding frameRule choose
-place-septet width = simp (eq-eqb width width refl)
+place-any width i h = simp (ne-eqb i (width + 1) (λ e. omega arith))
 
 pub place-sum : (width : ℕ) → frameRule width (width + 1) ≡ frameSum width
 unfolding frameRule choose
-place-sum width = simp (ne-eqb (width + 1) width (λ e. omega arith), eq-eqb (width + 1) (width + 1) refl)
+place-sum width = simp (eq-eqb (width + 1) (width + 1) refl)
 
--- what holds of the payload's places, of the septet's and of the checksum's holds of each place
-pub by-place : (P : ℕ → Type 0) (width : ℕ) → ((i : ℕ) → i < width → P i) → P width → P (width + 1) → (i : ℕ) → i < width + 2 → P i
-by-place P width p q r i inside =
-    dite (ℕ-discrete i width) (λ e. subst⁻¹ P e q)
-    (λ ne. dite (ℕ-discrete i (width + 1)) (λ e. subst⁻¹ P e r) (λ ne'. p i (omega arith)))
+-- what holds of the places of the payload and the septet, and of the checksum's, holds of each place
+pub by-place : (P : ℕ → Type 0) (width : ℕ) → ((i : ℕ) → i < width + 1 → P i) → P (width + 1) → (i : ℕ) → i < width + 2 → P i
+by-place P width p q i inside = dite (ℕ-discrete i (width + 1)) (λ e. subst⁻¹ P e q) (λ ne. p i (omega arith))
 
 -- ── the rules of a kind
 
@@ -151,10 +131,6 @@ module _ (width : ℕ) (s : List ℕ) (a m : ℕ) where
   part-byte : (i : ℕ) → i < m → getD (take m (drop a s)) i 0 ≡ getD s (a + i) 0
   part-byte i there = getD-take m (drop a s) i 0 there ∙ getD-drop a s i 0
 
-  septet-part : width < m → breach (septet width) s (a + width) ≡ breach (septet width) (take m (drop a s)) width
-  unfolding breach
-  septet-part there = rw (part-byte width there)
-
   sum-part : width + 1 < m → breach (frameSum width) s (a + (width + 1)) ≡ breach (frameSum width) (take m (drop a s)) (width + 1)
   unfolding breach
   sum-part there =
@@ -166,7 +142,6 @@ module _ (width : ℕ) (s : List ℕ) (a m : ℕ) where
   breach-part =
       by-place (λ (i : ℕ). i < m → breach (frameRule width i) s (a + i) ≡ breach (frameRule width i) (take m (drop a s)) i) width
       (λ i h there. breach-any _ s _ (place-any width i h) ∙ sym (breach-any _ (take m (drop a s)) i (place-any width i h)))
-      (λ there. rw place-septet (septet-part there))
       (λ there. rw place-sum (sum-part there))
 
   -- place i of the frame that starts at a is found as in the part that starts there

@@ -9,64 +9,50 @@ use mathlib.Core.List.{List}
 use lib.ListN.{length, getD, take, drop, length-drop}
 use lib.Seq.{length-take-le}
 use Rattle.checksum.specs.Checksum.{checksumOf}
-use Rattle.septet.specs.Septet.{unusedBits}
 use Rattle.stream.specs.Layout.{kind, streamLength}
 use Rattle.stream.specs.Validation.{frameRule, ruleAt, breach, faultAt}
 use Rattle.stream.specs.Stage.{Clean, Reached, whole, found, frameFault, AllLow, FirstHigh, IsMin, FramesFrom, RightUpTo}
-use Rattle.stream.proofs.Faults.{place-any, place-septet, place-sum, by-place, septet-right, septet-wrong, septet-held, frameSum-right, frameSum-wrong, frameSum-held, frame-high, frame-low, frame-low-held, frame-part, breach-any, stop-reached}
+use Rattle.stream.proofs.Faults.{place-any, place-sum, by-place, frameSum-right, frameSum-wrong, frameSum-held, frame-high, frame-low, frame-low-held, frame-part, breach-any, stop-reached}
 use Rattle.stream.proofs.Reached.{through, joined, moved}
 
 -- ── one frame by itself
-
-abbrev pub SeptetRight : ℕ → List ℕ → Type 0
-SeptetRight width part = unusedBits width (getD part width 0) ≡ 0
 
 abbrev pub SumRight : ℕ → List ℕ → Type 0
 SumRight width part = getD part (width + 1) 0 ≡ checksumOf (take (width + 1) part)
 
 module _ (width : ℕ) {part : List ℕ} {stop : ℕ} (first : FirstHigh part 0 (width + 2) stop) where
-  -- no fault below k, where the septet and the checksum are right if they stand below k
-  clean-to : (k : ℕ) → k ≤ stop → (width < k → SeptetRight width part) → (width + 1 < k → SumRight width part) → Clean (frameFault width part) k
-  clean-to k below septet sum i h =
+  -- no fault below k, where the checksum is right if it stands below k
+  clean-to : (k : ℕ) → k ≤ stop → (width + 1 < k → SumRight width part) → Clean (frameFault width part) k
+  clean-to k below sum i h =
       frame-low width part i (first .low i (omega arith) (omega arith))
       ∙ by-place (λ (i : ℕ). i < k → breach (frameRule width i) part i ≡ 0) width
       (λ i inside h. breach-any _ part i (place-any width i inside))
-      (λ h. rw place-septet (septet-right width part width (septet h)))
       (λ h. rw place-sum (rw (zero-add (width + 1)) at (frameSum-right width part 0 (rw (zero-add (width + 1)) (sum h)))))
       i (omega (arith, first .before)) h
 
   -- it stopped at the end or at a high byte
-  pub frame-stops : {v k : ℕ} → stop < width + 2 → (width < stop → SeptetRight width part) → k ≡ stop → (stop < length part → v ≡ 2) → (length part ≤ stop → v ≡ 7)
+  pub frame-stops : {v k : ℕ} → stop < width + 2 → k ≡ stop → (stop < length part → v ≡ 2) → (length part ≤ stop → v ≡ 7)
       → Reached (frameFault width part) (width + 2) (length part) v k
-  frame-stops short septet here high ends =
-      stop-reached first short (omega arith) here high ends (clean-to stop (omega arith) septet (λ far. absurd (omega arith))) (frame-high width part stop)
+  frame-stops short here high ends =
+      stop-reached first short (omega arith) here high ends (clean-to stop (omega arith) (λ far. absurd (omega arith))) (frame-high width part stop)
 
-  pub frame-septet : width < stop → (SeptetRight width part → ⊥) → Reached (frameFault width part) (width + 2) (length part) 5 width
-  frame-septet past bad =
-      found
-      (frame-low width part width (first .low width past (omega arith)) ∙ rw place-septet (septet-wrong width part width bad))
-      (omega arith)
-      (clean-to width (omega arith) (λ far. absurd (omega arith)) (λ far. absurd (omega arith)))
-      (omega arith)
-      (omega (arith, first .within))
-
-  pub frame-sum : width + 2 ≤ stop → SeptetRight width part → (SumRight width part → ⊥) → Reached (frameFault width part) (width + 2) (length part) 6 (width + 1)
-  frame-sum past septet bad =
+  pub frame-sum : width + 2 ≤ stop → (SumRight width part → ⊥) → Reached (frameFault width part) (width + 2) (length part) 6 (width + 1)
+  frame-sum past bad =
       found
       (frame-low width part (width + 1) (first .low (width + 1) (omega arith) (omega arith))
       ∙ rw place-sum (rw (zero-add (width + 1)) at (frameSum-wrong width part 0 (λ e. bad (rw (zero-add (width + 1)) at e)))))
       (omega arith)
-      (clean-to (width + 1) (omega arith) (λ far. septet) (λ far. absurd (omega arith)))
+      (clean-to (width + 1) (omega arith) (λ far. absurd (omega arith)))
       (omega arith)
       (omega (arith, first .within))
 
-  pub frame-whole : width + 2 ≤ stop → SeptetRight width part → SumRight width part → Reached (frameFault width part) (width + 2) (length part) 0 (width + 2)
-  frame-whole past septet sum =
-      whole refl refl (clean-to (width + 2) (omega arith) (λ far. septet) (λ far. sum)) (omega (arith, first .within))
+  pub frame-whole : width + 2 ≤ stop → SumRight width part → Reached (frameFault width part) (width + 2) (length part) 0 (width + 2)
+  frame-whole past sum =
+      whole refl refl (clean-to (width + 2) (omega arith) (λ far. sum)) (omega (arith, first .within))
 
 -- a frame that passes every test has no fault
-pub frame-right : (width : ℕ) (part : List ℕ) → length part ≡ width + 2 → AllLow part → SeptetRight width part → SumRight width part → Clean (frameFault width part) (width + 2)
-frame-right width part long low septet sum = through (frame-whole width first (omega arith) septet sum) (omega arith)
+pub frame-right : (width : ℕ) (part : List ℕ) → length part ≡ width + 2 → AllLow part → SumRight width part → Clean (frameFault width part) (width + 2)
+frame-right width part long low sum = through (frame-whole width first (omega arith) sum) (omega arith)
   where
     first : FirstHigh part 0 (width + 2) (width + 2)
     first = record { after = omega arith; before = omega arith; within = omega arith; low = λ i h above. low i (omega arith); high = λ short inside. absurd (omega arith) }
@@ -78,9 +64,6 @@ module _ (width : ℕ) (part : List ℕ) (clean : Clean (frameFault width part) 
 
   pub clean-low : length part ≡ width + 2 → AllLow part
   clean-low long i h = frame-low-held width part i (clean i (omega arith))
-
-  pub clean-septet : SeptetRight width part
-  clean-septet = septet-held width part width (rw place-septet at (kept width (omega arith)))
 
   pub clean-sum : SumRight width part
   clean-sum = rw zero-add at (frameSum-held width part 0 (rw zero-add (rw place-sum at (kept (width + 1) (omega arith)))))

@@ -9,14 +9,13 @@ use borrow.Author.Tests.{ne-eqb}
 use lib.ListN.{length, getD, take, drop}
 use Rattle.basics.specs.Choice.{choose}
 use Rattle.checksum.specs.Checksum.{checksumOf}
-use Rattle.septet.specs.Septet.{unusedBits}
 use Rattle.stream.specs.Layout.{kind, headerLength, frameWidth, frameCount, lengthAs, streamLength}
-use Rattle.stream.specs.Validation.{any, septet, headerSum, headerRule, ruleAt, breach, faultAt}
+use Rattle.stream.specs.Validation.{any, headerSum, headerRule, ruleAt, breach, faultAt}
 use Rattle.stream.specs.Stage.{Clean, Reached, whole, ended, found, ReachedTo, FirstHigh, StoppedAt, AddressClean, AddressCleanAs, ChecksumAt, FramesFrom}
 use Rattle.stream.specs.declared.Kind.{Kind}
 use Rattle.stream.specs.declared.Kind.the-variants.{Packet, Datagram, Telegram, Unknown}
-use Rattle.stream.specs.declared.Validation.{Validation}
-use Rattle.stream.proofs.Faults.{rule-header, rule-frame, fault-high, fault-low, breach-any, septet-right, septet-wrong, headerSum-right, headerSum-wrong, sync-right, sync-wrong, stop-reached}
+use Rattle.stream.specs.declared.Stop.{Stop}
+use Rattle.stream.proofs.Faults.{rule-header, rule-frame, fault-high, fault-low, breach-any, headerSum-right, headerSum-wrong, sync-right, sync-wrong, stop-reached}
 use Rattle.stream.proofs.Reached.{through, bounded}
 
 -- ── the rules of a kind
@@ -25,9 +24,9 @@ packet-any : (k : ℕ) → k < 9 → headerRule Packet k ≡ any
 unfolding headerRule choose
 packet-any k h = simp (ne-eqb k 9 (λ e. omega arith))
 
-datagram-any : (k : ℕ) → k < 14 → headerRule Datagram k ≡ any
+datagram-any : (k : ℕ) → k < 15 → headerRule Datagram k ≡ any
 unfolding headerRule choose
-datagram-any k h = simp (ne-eqb k 14 (λ e. omega arith), ne-eqb k 15 (λ e. omega arith))
+datagram-any k h = simp (ne-eqb k 15 (λ e. omega arith))
 
 telegram-any : (k : ℕ) → k < 7 → headerRule Telegram k ≡ any
 unfolding headerRule choose
@@ -82,7 +81,7 @@ module _ (s : List ℕ) (address : AddressClean s) (limit stop : ℕ) (first : F
       (λ ne. first .low i (omega arith) (omega arith)))
       ∙ kept i (omega arith) h)
 
-  stops : (total : ℕ) (r : Validation) → stop < limit → limit ≤ total → Kept s stop → StoppedAt s stop r → ReachedTo s total r
+  stops : (total : ℕ) (r : Stop) → stop < limit → limit ≤ total → Kept s stop → StoppedAt s stop r → ReachedTo s total r
   stops total r short room kept stopped =
       stop-reached first short room (stopped .here) (stopped .high) (stopped .ends) (clean-to stop (omega arith) kept)
       (fault-high s stop (omega (arith, first .after)))
@@ -106,7 +105,7 @@ module _ (s : List ℕ) (at : ℕ) (header : ChecksumAt s at) (stop : ℕ) (firs
   kept-free : Kept s at
   kept-free i after h = breach-any _ s i (header .free i h)
 
-  pub header-stops : (r : Validation) → stop < at + 1 → StoppedAt s stop r → ReachedTo s (at + 1) r
+  pub header-stops : (r : Stop) → stop < at + 1 → StoppedAt s stop r → ReachedTo s (at + 1) r
   header-stops r short stopped =
       stops s (header .address) (at + 1) stop first (at + 1) r short (omega arith) (λ i after h. kept-free i after (omega arith)) stopped
 
@@ -120,7 +119,7 @@ module _ (s : List ℕ) (at : ℕ) (header : ChecksumAt s at) (stop : ℕ) (firs
       passes s (header .address) (at + 1) stop first (at + 1) past
       (kept-more s at kept-free (rw (header .sum) (headerSum-right (at - 1) s at right)))
 
--- ── a packet, and a telegram
+-- ── the header of each kind
 
 -- the kind's header ends with its checksum at `at`, before which any byte may stand
 pub record EndsAt (K : Kind) (at : ℕ) : Type 0 where
@@ -131,6 +130,10 @@ pub record EndsAt (K : Kind) (at : ℕ) : Type 0 where
 pub packet-ends : EndsAt Packet 9
 unfolding headerLength headerRule choose
 packet-ends = record { ends = refl; free = packet-any; sum = refl }
+
+pub datagram-ends : EndsAt Datagram 15
+unfolding headerLength headerRule choose
+datagram-ends = record { ends = refl; free = datagram-any; sum = refl }
 
 pub telegram-ends : EndsAt Telegram 7
 unfolding headerLength headerRule choose
@@ -166,54 +169,10 @@ module _ (K : Kind) (at : ℕ) (ends : EndsAt K at) (s : List ℕ) (sort : Addre
 
 -- ── a datagram
 
-module _ (s : List ℕ) (sort : AddressCleanAs s Datagram) (stop : ℕ) (first : FirstHigh s 6 16 stop) where
-  ruled : (k : ℕ) → ruleAt (kind s) k ≡ ruleAt Datagram k
-  ruled k = ap (λ (x : Kind). ruleAt x k) (sort .is)
-
-  kept-14 : Kept s 14
-  unfolding headerLength
-  kept-14 i after h = breach-any _ s i (ruled i ∙ rule-header Datagram i (omega arith) ∙ datagram-any i h)
-
-  septet-at : ruleAt (kind s) 14 ≡ septet 6
-  unfolding ruleAt headerRule headerLength choose
-  septet-at = ruled 14
-
-  sum-at : ruleAt (kind s) 15 ≡ headerSum 14
-  unfolding ruleAt headerRule headerLength choose
-  sum-at = ruled 15
-
-  sixteen : streamLength s ≡ 16
-  unfolding headerLength frameWidth frameCount
-  sixteen = length-as s Datagram (sort .is)
-
-  kept-15 : unusedBits 6 (getD s 14 0) ≡ 0 → Kept s 15
-  kept-15 right = kept-more s 14 kept-14 (rw septet-at (septet-right 6 s 14 right))
-
-  pub datagram-stops : (r : Validation) → stop < 16 → (14 < stop → unusedBits 6 (getD s 14 0) ≡ 0) → StoppedAt s stop r → ReachedTo s (streamLength s) r
-  datagram-stops r short right stopped =
-      stops s (sort .address) 16 stop first (streamLength s) r short (omega (arith, sixteen))
-      (λ i after h.
-      dite (decLt 14 stop)
-      (λ far. kept-15 (right far) i after (omega arith))
-      (λ near. kept-14 i after (omega arith)))
-      stopped
-
-  pub datagram-septet : 14 < stop → (unusedBits 6 (getD s 14 0) ≡ 0 → ⊥) → Reached (faultAt s) (streamLength s) (length s) 5 14
-  datagram-septet past bad =
-      finds s (sort .address) 16 stop first (streamLength s) 14 5 (omega arith) past (omega (arith, sixteen)) (omega arith) kept-14
-      (rw septet-at (septet-wrong 6 s 14 bad))
-
-  pub datagram-wrong : 16 ≤ stop → unusedBits 6 (getD s 14 0) ≡ 0 → (getD s 15 0 ≡ checksumOf (take 14 (drop 1 s)) → ⊥)
-      → Reached (faultAt s) (streamLength s) (length s) 4 15
-  datagram-wrong past right bad =
-      finds s (sort .address) 16 stop first (streamLength s) 15 4 (omega arith) (omega arith) (omega (arith, sixteen)) (omega arith) (kept-15 right)
-      (rw sum-at (headerSum-wrong 14 s 15 bad))
-
-  pub datagram-right : 16 ≤ stop → unusedBits 6 (getD s 14 0) ≡ 0 → getD s 15 0 ≡ checksumOf (take 14 (drop 1 s))
-      → Reached (faultAt s) (streamLength s) (length s) 0 16
-  datagram-right past right sum =
-      subst⁻¹ (λ (n : ℕ). Reached (faultAt s) n (length s) 0 16) sixteen
-      (passes s (sort .address) 16 stop first 16 past (kept-more s 15 (kept-15 right) (rw sum-at (headerSum-right 14 s 15 sum))))
+-- its header is all of it
+pub datagram-length : (s : List ℕ) → AddressCleanAs s Datagram → streamLength s ≡ 16
+unfolding headerLength frameWidth frameCount
+datagram-length s sort = length-as s Datagram (sort .is)
 
 -- ── the version
 
@@ -236,7 +195,7 @@ module _ (s : List ℕ) (sync : getD s 0 0 ≡ 0xAA) (stop : ℕ) (first : First
       (λ e. subst⁻¹ (λ (n : ℕ). faultAt s n ≡ 0) e (sync-right s sync))
       (λ ne. fault-low s i (omega arith) (first .low i (omega arith) (omega arith)) ∙ breach-any _ s i (rule-header (kind s) i (omega (arith, headerLength-least (kind s))) ∙ address-any (kind s) i (omega arith)))
 
-  pub address-stops : (r : Validation) → stop < 6 → StoppedAt s stop r → ReachedTo s (streamLength s) r
+  pub address-stops : (r : Stop) → stop < 6 → StoppedAt s stop r → ReachedTo s (streamLength s) r
   address-stops r short stopped =
       stop-reached first short (at-least-six s) (stopped .here) (stopped .high) (stopped .ends) (address-clean-to stop (omega arith) (omega arith))
       (fault-high s stop (omega (arith, first .after)))

@@ -12,12 +12,9 @@ use lib.ListN.{length, drop}
 use lib.Seq.{drop-cons, drop-length}
 use Rattle.basics.specs.Choice.{choose}
 use Rattle.stream.specs.Layout.{streamLength}
-use Rattle.stream.specs.Validation.{faultAt, validationFrom, validationOf}
-use Rattle.stream.specs.declared.Validation.{Validation}
+use Rattle.stream.specs.Unused.{unusedSeptets}
+use Rattle.stream.specs.Validation.{faultAt, verdictAt, validationFrom, validationOf}
 use Rattle.stream.specs.Stage.{Clean, Reached, whole, ended, found}
-
-abbrev answer : ℕ → ℕ → Validation
-answer v k = record { verdict = v; offset = k }
 
 -- ── what is reached is the answer
 
@@ -33,27 +30,27 @@ skip s zero clean inside below = refl
 skip s (suc k) clean inside below =
     skip s k (λ i h. clean i (omega arith)) (omega arith) (omega arith) ∙ step s k (clean k (omega arith)) inside below
 
-at-whole : (s rest : List ℕ) (k : ℕ) → k ≡ streamLength s → validationFrom s k rest ≡ answer 0 k
+at-whole : (s rest : List ℕ) (k : ℕ) → k ≡ streamLength s → validationFrom s k rest ≡ verdictAt s 0 k
 unfolding validationFrom choose
 at-whole s [] k e = simp (eq-eqb k (streamLength s) e)
 at-whole s (byte ∷ rest) k e = simp (eq-eqb k (streamLength s) e)
 
-at-end : (s : List ℕ) (k : ℕ) → k < streamLength s → validationFrom s k [] ≡ answer 7 k
+at-end : (s : List ℕ) (k : ℕ) → k < streamLength s → validationFrom s k [] ≡ verdictAt s 7 k
 unfolding validationFrom choose
 at-end s k h = simp (ne-eqb k (streamLength s) (λ e. omega arith))
 
-at-fault : (s : List ℕ) (k : ℕ) → 0 < faultAt s k → k < length s → k < streamLength s → validationFrom s k (drop k s) ≡ answer (faultAt s k) k
+at-fault : (s : List ℕ) (k : ℕ) → 0 < faultAt s k → k < length s → k < streamLength s → validationFrom s k (drop k s) ≡ verdictAt s (faultAt s k) k
 unfolding validationFrom choose
 at-fault s k bad inside below =
     rw (drop-cons s k 0) (simp (ne-eqb k (streamLength s) (λ e. omega arith), ne-eqb (faultAt s k) 0 (λ e. omega arith)))
 
-pub sound : (s : List ℕ) (v k : ℕ) → Reached (faultAt s) (streamLength s) (length s) v k → answer v k ≡ validationOf s
+pub sound : (s : List ℕ) (v k : ℕ) → Reached (faultAt s) (streamLength s) (length s) v k → verdictAt s v k ≡ validationOf s
 sound s v k (whole z o clean inside) =
-    ap₂ answer z o ∙ sym (skip s (streamLength s) clean inside (omega arith) ∙ at-whole s _ _ refl)
+    ap₂ (verdictAt s) z o ∙ sym (skip s (streamLength s) clean inside (omega arith) ∙ at-whole s _ _ refl)
 sound s v k (ended z o clean below) =
-    ap₂ answer z o ∙ sym (skip s (length s) clean (omega arith) (omega arith) ∙ rw drop-length (at-end s _ below))
+    ap₂ (verdictAt s) z o ∙ sym (skip s (length s) clean (omega arith) (omega arith) ∙ rw drop-length (at-end s _ below))
 sound s v k (found e bad clean below inside) =
-    ap (λ n. answer n k) (sym e) ∙ sym (skip s k clean (omega arith) (omega arith) ∙ at-fault s k (omega arith) inside below)
+    ap (λ (n : ℕ). verdictAt s n k) (sym e) ∙ sym (skip s k clean (omega arith) (omega arith) ∙ at-fault s k (omega arith) inside below)
 
 -- ── and the answer is reached
 
@@ -140,5 +137,5 @@ whole-clean s w =
     let (offset, held, clean) = whole-to s (validationOf s .verdict) (validationOf s .offset) (complete s) w in
     record { offset = offset; held = held; clean = clean }
 
-pub clean-whole : (s : List ℕ) → Clean (faultAt s) (streamLength s) → streamLength s ≤ length s → validationOf s ≡ answer 0 (streamLength s)
+pub clean-whole : (s : List ℕ) → Clean (faultAt s) (streamLength s) → streamLength s ≤ length s → validationOf s ≡ verdictAt s 0 (streamLength s)
 clean-whole s clean held = sym (sound s _ _ (whole refl refl clean held))

@@ -7,15 +7,16 @@ use Rattle.basics.specs.Choice.{choose}
 use Rattle.checksum.specs.Checksum.{checksumFrom}
 use Rattle.stream.specs.Layout.{kindOf, headerLength, frameWidth, telegramFrames, frameCount, streamLength}
 use Rattle.stream.specs.declared.Kind.the-variants.{Packet, Datagram, Telegram, Unknown}
+use Rattle.stream.specs.Unused.{unusedFrames, unusedIn, countNonzero, unusedSeptets}
 use Rattle.stream.specs.Validation.{frameRule, headerRule, ruleAt, breach, faultAt, validationFrom, validationOf}
 
 -- T1 under each version of a telegram, with its checksum
-telegram : validationOf (0xAA ∷ 0x10 ∷ 0x20 ∷ 0x31 ∷ 0x77 ∷ 0x30 ∷ 0x01 ∷ 0x76 ∷ []) ≡ record { verdict = 0; offset = 8 }
-unfolding validationFrom streamLength kindOf choose headerLength frameWidth frameCount faultAt breach ruleAt headerRule frameRule checksumFrom
+telegram : validationOf (0xAA ∷ 0x10 ∷ 0x20 ∷ 0x31 ∷ 0x77 ∷ 0x30 ∷ 0x01 ∷ 0x76 ∷ []) ≡ record { verdict = 0; offset = 8; «unused_septets» = 0 }
+unfolding unusedSeptets unusedIn unusedFrames countNonzero validationFrom streamLength kindOf choose headerLength frameWidth frameCount faultAt breach ruleAt headerRule frameRule checksumFrom
 telegram = refl
 
-telegram-31 : validationOf (0xAA ∷ 0x10 ∷ 0x20 ∷ 0x31 ∷ 0x77 ∷ 0x31 ∷ 0x01 ∷ 0x75 ∷ []) ≡ record { verdict = 0; offset = 8 }
-unfolding validationFrom streamLength kindOf choose headerLength frameWidth frameCount faultAt breach ruleAt headerRule frameRule checksumFrom
+telegram-31 : validationOf (0xAA ∷ 0x10 ∷ 0x20 ∷ 0x31 ∷ 0x77 ∷ 0x31 ∷ 0x01 ∷ 0x75 ∷ []) ≡ record { verdict = 0; offset = 8; «unused_septets» = 0 }
+unfolding unusedSeptets unusedIn unusedFrames countNonzero validationFrom streamLength kindOf choose headerLength frameWidth frameCount faultAt breach ruleAt headerRule frameRule checksumFrom
 telegram-31 = refl
 
 -- n numbers, from k on

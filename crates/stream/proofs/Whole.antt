@@ -14,23 +14,15 @@ use borrow.Author.Tests.{eqb-true}
 use Rattle.basics.specs.Choice.{choose}
 use Rattle.basics.proofs.Choice.{choose-by}
 use Rattle.checksum.specs.Checksum.{checksumOf}
-use Rattle.septet.specs.Septet.{unusedBits}
 use Rattle.stream.specs.Layout.{kindOf, kind, headerLength, frameWidth, frameCount, lengthAs, streamLength}
 use Rattle.stream.specs.Validation.{Rule, frameRule, headerRule, ruleAt, breach, faultAt}
 use Rattle.stream.specs.Stage.{Clean}
 use Rattle.stream.specs.declared.Kind.{Kind}
 use Rattle.stream.specs.declared.Kind.the-variants.{Packet, Datagram, Telegram, Unknown}
-use Rattle.stream.proofs.Faults.{frameBase, rule-header, rule-frame, place-any, place-septet, place-sum, by-place, unknown-held, septet-right, septet-held, headerSum-right, headerSum-held, frameSum-right, frameSum-held, sync-right, sync-held, fault-low, low-held, breach-any}
+use Rattle.stream.proofs.Faults.{frameBase, rule-header, rule-frame, place-any, place-sum, by-place, unknown-held, headerSum-right, headerSum-held, frameSum-right, frameSum-held, sync-right, sync-held, fault-low, low-held, breach-any}
 use Rattle.stream.proofs.Headers.{headerLength-least}
 
 -- ── the header
-
--- no septet bit of the header is set that stands for no byte
-abbrev pub HeaderUnused : Kind → List ℕ → Type 0
-HeaderUnused Packet s = Unit {0}
-HeaderUnused Datagram s = unusedBits 6 (getD s 14 0) ≡ 0
-HeaderUnused Telegram s = Unit {0}
-HeaderUnused Unknown s = Unit {0}
 
 -- the header's checksum is right
 abbrev pub HeaderSum : Kind → List ℕ → Type 0
@@ -39,45 +31,37 @@ HeaderSum Datagram s = getD s 15 0 ≡ checksumOf (take 14 (drop 1 s))
 HeaderSum Telegram s = getD s 7 0 ≡ checksumOf (take 6 (drop 1 s))
 HeaderSum Unknown s = ⊥
 
-header-right : (K : Kind) (s : List ℕ) → ((k : ℕ) → 0 < k → k < headerLength K → breach (headerRule K k) s k ≡ 0) → HeaderUnused K s × HeaderSum K s
+header-right : (K : Kind) (s : List ℕ) → ((k : ℕ) → 0 < k → k < headerLength K → breach (headerRule K k) s k ≡ 0) → HeaderSum K s
 unfolding headerLength headerRule choose
-header-right Packet s clean = (tt, headerSum-held 8 s 9 (clean 9 (omega arith) (omega arith)))
-header-right Datagram s clean =
-    (septet-held 6 s 14 (clean 14 (omega arith) (omega arith)), headerSum-held 14 s 15 (clean 15 (omega arith) (omega arith)))
-header-right Telegram s clean = (tt, headerSum-held 6 s 7 (clean 7 (omega arith) (omega arith)))
+header-right Packet s clean = headerSum-held 8 s 9 (clean 9 (omega arith) (omega arith))
+header-right Datagram s clean = headerSum-held 14 s 15 (clean 15 (omega arith) (omega arith))
+header-right Telegram s clean = headerSum-held 6 s 7 (clean 7 (omega arith) (omega arith))
 header-right Unknown s clean = absurd (unknown-held s 5 (clean 5 (omega arith) (omega arith)))
 
-header-clean : (K : Kind) (s : List ℕ) → HeaderUnused K s → HeaderSum K s → (k : ℕ) → breach (headerRule K k) s k ≡ 0
+header-clean : (K : Kind) (s : List ℕ) → HeaderSum K s → (k : ℕ) → breach (headerRule K k) s k ≡ 0
 unfolding headerRule
-header-clean Packet s unused sum k =
+header-clean Packet s sum k =
     choose-by (λ (r : Rule). breach r s k ≡ 0) _ (λ e. rw (eqb-true k 9 e) (headerSum-right 8 s 9 sum)) (λ e. breach-any _ s k refl)
-header-clean Datagram s unused sum k =
-    choose-by (λ (r : Rule). breach r s k ≡ 0) _
-    (λ e. rw (eqb-true k 14 e) (septet-right 6 s 14 unused))
-    (λ d. choose-by (λ (r : Rule). breach r s k ≡ 0) _ (λ e. rw (eqb-true k 15 e) (headerSum-right 14 s 15 sum)) (λ e. breach-any _ s k refl))
-header-clean Telegram s unused sum k =
+header-clean Datagram s sum k =
+    choose-by (λ (r : Rule). breach r s k ≡ 0) _ (λ e. rw (eqb-true k 15 e) (headerSum-right 14 s 15 sum)) (λ e. breach-any _ s k refl)
+header-clean Telegram s sum k =
     choose-by (λ (r : Rule). breach r s k ≡ 0) _ (λ e. rw (eqb-true k 7 e) (headerSum-right 6 s 7 sum)) (λ e. breach-any _ s k refl)
-header-clean Unknown s unused sum k = absurd sum
+header-clean Unknown s sum k = absurd sum
 
 -- ── a frame
 
-pub record FrameRight (width : ℕ) (s : List ℕ) (base : ℕ) : Type 0 where
-  pub unused : unusedBits width (getD s (base + width) 0) ≡ 0
-  pub sum : getD s (base + (width + 1)) 0 ≡ checksumOf (take (width + 1) (drop base s))
+-- its checksum is right
+abbrev pub FrameSum : ℕ → List ℕ → ℕ → Type 0
+FrameSum width s base = getD s (base + (width + 1)) 0 ≡ checksumOf (take (width + 1) (drop base s))
 
-frame-right : (width : ℕ) (s : List ℕ) (base : ℕ) → ((i : ℕ) → i < width + 2 → breach (frameRule width i) s (base + i) ≡ 0) → FrameRight width s base
-frame-right width s base clean =
-    record {
-      unused = septet-held width s (base + width) (rw (place-septet width) at (clean width (omega arith)));
-      sum = frameSum-held width s base (rw (place-sum width) at (clean (width + 1) (omega arith)));
-    }
+frame-right : (width : ℕ) (s : List ℕ) (base : ℕ) → ((i : ℕ) → i < width + 2 → breach (frameRule width i) s (base + i) ≡ 0) → FrameSum width s base
+frame-right width s base clean = frameSum-held width s base (rw (place-sum width) at (clean (width + 1) (omega arith)))
 
-frame-clean : (width : ℕ) (s : List ℕ) (base : ℕ) → FrameRight width s base → (i : ℕ) → i < width + 2 → breach (frameRule width i) s (base + i) ≡ 0
+frame-clean : (width : ℕ) (s : List ℕ) (base : ℕ) → FrameSum width s base → (i : ℕ) → i < width + 2 → breach (frameRule width i) s (base + i) ≡ 0
 frame-clean width s base right =
     by-place (λ (i : ℕ). breach (frameRule width i) s (base + i) ≡ 0) width
     (λ i inside. breach-any _ s (base + i) (place-any width i inside))
-    (rw place-septet (septet-right width s (base + width) (right .unused)))
-    (rw place-sum (frameSum-right width s base (right .sum)))
+    (rw place-sum (frameSum-right width s base right))
 
 -- ── the stream
 
@@ -85,9 +69,8 @@ frame-clean width s base right =
 pub record WholeAs (K : Kind) (s : List ℕ) : Type 0 where
   pub sync : getD s 0 0 ≡ 0xAA
   pub low : (k : ℕ) → 0 < k → k < lengthAs K s → getD s k 0 < 0x80
-  pub unused : HeaderUnused K s
   pub sum : HeaderSum K s
-  pub frames : (f : ℕ) → f < frameCount K s → FrameRight (frameWidth K) s (frameBase K f)
+  pub frames : (f : ℕ) → f < frameCount K s → FrameSum (frameWidth K) s (frameBase K f)
 
 abbrev pub WholeStream : List ℕ → Type 0
 WholeStream s = WholeAs (kind s) s
@@ -136,8 +119,7 @@ whole-of-clean s clean =
     record {
       sync = sync-held s (clean 0 (header-within s 0 (omega (arith, headerLength-least (kind s)))));
       low = low;
-      unused = header .0;
-      sum = header .1;
+      sum = header;
       frames = λ f hf. frame-right (frameWidth K) s (frameBase K f) (λ i hi. rw (rule-frame K f i hi) at (kept (frameBase K f + i) (omega (arith, headerLength-least (kind s))) (frame-within s f i hf hi)));
     }
 
@@ -149,7 +131,7 @@ clean-of-whole s whole k h =
     inside : breach (ruleAt (kind s) k) s k ≡ 0
     inside =
         dite (decLt k (headerLength (kind s)))
-        (λ l. rw (rule-header (kind s) k l) (header-clean (kind s) s (whole .unused) (whole .sum) k))
+        (λ l. rw (rule-header (kind s) k l) (header-clean (kind s) s (whole .sum) k))
         (λ l.
         let p = frame-place s k (omega arith) h in
         rw (p .there, rule-frame (kind s) (p .frame) (p .place) (p .placed))
@@ -157,13 +139,11 @@ clean-of-whole s whole k h =
 
 -- ── a frame of what is left of a stream
 
-pub frame-drop : (width : ℕ) (s : List ℕ) (base k : ℕ) → FrameRight width (drop base s) k → FrameRight width s (base + k)
-frame-drop width s base k right =
-    record { unused = rw (add-assoc, ← getD-drop base s) (right .unused); sum = rw (add-assoc base k (width + 1), ← getD-drop base s, ← drop-drop k base s) (right .sum) }
+pub frame-drop : (width : ℕ) (s : List ℕ) (base k : ℕ) → FrameSum width (drop base s) k → FrameSum width s (base + k)
+frame-drop width s base k right = rw (add-assoc base k (width + 1), ← getD-drop base s, ← drop-drop k base s) right
 
-pub drop-frame : (width : ℕ) (s : List ℕ) (base k : ℕ) → FrameRight width s (base + k) → FrameRight width (drop base s) k
-drop-frame width s base k right =
-    record { unused = rw (getD-drop, ← add-assoc) (right .unused); sum = rw (getD-drop, drop-drop, ← add-assoc base k (width + 1)) (right .sum) }
+pub drop-frame : (width : ℕ) (s : List ℕ) (base k : ℕ) → FrameSum width s (base + k) → FrameSum width (drop base s) k
+drop-frame width s base k right = rw (getD-drop, drop-drop, ← add-assoc base k (width + 1)) right
 
 -- ── kinds
 

@@ -1,3 +1,4 @@
 pub mod Layout
+pub mod Unused
 pub mod Validation
 pub mod Stage

@@ -8,7 +8,7 @@ use Rattle.basics.specs.Choice.{choose}
 use Rattle.stream.specs.Layout.{kind, streamLength}
 use Rattle.stream.specs.Validation.{number, any, headerSum, frameRule, ruleAt, breach, faultAt}
 use Rattle.stream.specs.declared.Kind.{Kind}
-use Rattle.stream.specs.declared.Validation.{Validation}
+use Rattle.stream.specs.declared.Stop.{Stop}
 
 -- no fault below k
 abbrev pub Clean : (ℕ → ℕ) → ℕ → Type 0
@@ -21,11 +21,11 @@ pub data Reached (fault : ℕ → ℕ) (total n v k : ℕ) : Type 0 where
   found : fault k ≡ v → 0 < v → Clean fault k → k < total → k < n → Reached fault total n v k
 
 -- r is what the first `total` bytes of s bring
-abbrev pub ReachedTo : List ℕ → ℕ → Validation → Type 0
+abbrev pub ReachedTo : List ℕ → ℕ → Stop → Type 0
 ReachedTo s total r = Reached (faultAt s) total (length s) (r .verdict) (r .offset)
 
 -- r is what s brings
-abbrev pub ReachedAll : List ℕ → Validation → Type 0
+abbrev pub ReachedAll : List ℕ → Stop → Type 0
 ReachedAll s r = ReachedTo s (streamLength s) r
 
 -- the fault at place i of a frame of the given width, of which part is what there is
@@ -33,7 +33,7 @@ unfoldable pub frameFault : ℕ → List ℕ → ℕ → ℕ
 frameFault width part i = choose (leb 0x80 (getD part i 0)) 2 (breach (frameRule width i) part i)
 
 -- r is what a frame of the given width brings, of which part is what there is
-abbrev pub ReachedFrame : ℕ → List ℕ → Validation → Type 0
+abbrev pub ReachedFrame : ℕ → List ℕ → Stop → Type 0
 ReachedFrame width part r = Reached (frameFault width part) (width + 2) (length part) (r .verdict) (r .offset)
 
 -- no byte of s is 0x80 or more
@@ -90,7 +90,7 @@ pub record IsMin (a b r : ℕ) : Type 0 where
   pub most : (x : ℕ) → x ≤ a → x ≤ b → x ≤ r
 
 -- r says what stopped a search for high bytes
-pub record StoppedAt (s : List ℕ) (stop : ℕ) (r : Validation) : Type 0 where
+pub record StoppedAt (s : List ℕ) (stop : ℕ) (r : Stop) : Type 0 where
   pub here : r .offset ≡ stop
   pub high : stop < length s → r .verdict ≡ 2
   pub ends : length s ≤ stop → r .verdict ≡ 7

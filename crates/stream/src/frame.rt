@@ -5,7 +5,7 @@ ghost use mathlib.Core.Bool.{true};
 ghost use mathlib.Core.Logic.{_↔_};
 ghost use lib.ListN.{length};
 ghost use Rattle.stream.specs.Stage.{Clean, ReachedFrame, ReachedAll, frameFault, FramesFrom, RightUpTo};
-use crate::Validation;
+use crate::Stop;
 use crate::Verdict;
 use crate::at;
 use crate::high_bytes::all_low;
@@ -14,19 +14,12 @@ use crate::high_bytes::min;
 use crate::high_bytes::stopped;
 
 // The verdict on the frame that `part` is, or that it is cut off in.
-fn check(part: &[u8], width: usize) -> Validation
+fn check(part: &[u8], width: usize) -> Stop
     requires { ⌜ width ≤ 7 ⌝ }
     ensures { λ r. ⌜ ReachedFrame width (now (part .entry)) r ⌝ }
 {
     let size = width + 2;
     let stop = first_high(part, 0, size);
-    if stop <= width {
-        return stopped(part, stop);
-    }
-    let septet = part[width];
-    if septet >> width != 0 {
-        return at(Verdict::UnusedSeptetBit, width);
-    }
     if stop < size {
         return stopped(part, stop);
     }
@@ -43,9 +36,6 @@ fn is_right(frame: &[u8], width: usize) -> bool
     ensures { λ r. ⌜ r ≡ true ↔ Clean (frameFault width (now (frame .entry))) (width + 2) ⌝ }
 {
     if !all_low(frame) {
-        return false;
-    }
-    if frame[width] >> width != 0 {
         return false;
     }
     let end = width + 1;
@@ -73,7 +63,7 @@ pub fn skip_right(input: &[u8], start: usize, width: usize, end: usize) -> usize
 }
 
 // The verdict on a stream that is right up to `a`, where `skip_right` stopped: V0 at the end, else what the frame there brings.
-pub fn validate_from(input: &[u8], a: usize, width: usize, end: usize) -> Validation
+pub fn validate_from(input: &[u8], a: usize, width: usize, end: usize) -> Stop
     requires { ⌜ RightUpTo (now input) a width end ⌝ }
     ensures { λ r. ⌜ ReachedAll (now (input .entry)) r ⌝ }
 {
@@ -83,7 +73,7 @@ pub fn validate_from(input: &[u8], a: usize, width: usize, end: usize) -> Valida
     // Not `min(a + (width + 2), ..)`: for that sum the compiler would keep a second counter in the loop of `skip_right`.
     let e = a + min(width + 2, input.len() - a);
     let r = check(&input[a..e], width);
-    Validation {
+    Stop {
         verdict: r.verdict,
         offset: a + r.offset,
     }

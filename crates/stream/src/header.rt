@@ -3,7 +3,7 @@ ghost use Prim.Native.Nat.{_+_};
 ghost use Rattle.stream.specs.declared.Kind.the-variants.{Packet, Datagram, Telegram};
 ghost use Rattle.stream.specs.Stage.{ReachedTo, ReachedAll, AddressClean, AddressCleanAs, ChecksumAt};
 use crate::Kind;
-use crate::Validation;
+use crate::Stop;
 use crate::Verdict;
 use crate::at;
 use crate::frame::skip_right;
@@ -13,7 +13,7 @@ use crate::high_bytes::stopped;
 use crate::telegram_frames;
 
 // The verdict on a header whose checksum stands at `place`.
-fn check(input: &[u8], place: usize) -> Validation
+fn check(input: &[u8], place: usize) -> Stop
     requires { ⌜ ChecksumAt (now input) place ⌝ }
     ensures { λ r. ⌜ ReachedTo (now (input .entry)) (place + 1) r ⌝ }
 {
@@ -29,7 +29,7 @@ fn check(input: &[u8], place: usize) -> Validation
 }
 
 // The verdict on a packet: frames of four bytes, as many as offset 8 says.
-fn packet(input: &[u8]) -> Validation
+fn packet(input: &[u8]) -> Stop
     requires { ⌜ AddressCleanAs (now input) Packet ⌝ }
     ensures { λ r. ⌜ ReachedAll (now (input .entry)) r ⌝ }
 {
@@ -42,7 +42,7 @@ fn packet(input: &[u8]) -> Validation
 }
 
 // The verdict on a telegram: frames of seven bytes, as many as bits 5-6 of the command say.
-fn telegram(input: &[u8]) -> Validation
+fn telegram(input: &[u8]) -> Stop
     requires { ⌜ AddressCleanAs (now input) Telegram ⌝ }
     ensures { λ r. ⌜ ReachedAll (now (input .entry)) r ⌝ }
 {
@@ -54,29 +54,16 @@ fn telegram(input: &[u8]) -> Validation
     validate_from(input, skip_right(input, 8, 7, end), 7, end)
 }
 
-// The verdict on a datagram: a septet of six bytes at 14, and the checksum of all before it at 15.
-fn datagram(input: &[u8]) -> Validation
+// The verdict on a datagram: the checksum of all before it at 15.
+fn datagram(input: &[u8]) -> Stop
     requires { ⌜ AddressCleanAs (now input) Datagram ⌝ }
     ensures { λ r. ⌜ ReachedAll (now (input .entry)) r ⌝ }
 {
-    let stop = first_high(input, 6, 16);
-    if stop <= 14 {
-        return stopped(input, stop);
-    }
-    if input[14] / 64 != 0 {
-        return at(Verdict::UnusedSeptetBit, 14);
-    }
-    if stop < 16 {
-        return stopped(input, stop);
-    }
-    if checksum::checksum(&input[1..15]) != input[15] {
-        return at(Verdict::HeaderChecksum, 15);
-    }
-    at(Verdict::Whole, 16)
+    check(input, 15)
 }
 
 // The verdict on a stream of which nothing below the version is wrong.
-pub fn validate(input: &[u8]) -> Validation
+pub fn validate(input: &[u8]) -> Stop
     requires { ⌜ AddressClean (now input) ⌝ }
     ensures { λ r. ⌜ ReachedAll (now (input .entry)) r ⌝ }
 {

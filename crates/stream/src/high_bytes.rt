@@ -5,7 +5,7 @@ ghost use mathlib.Core.Bool.{true};
 ghost use mathlib.Core.Logic.{_↔_};
 ghost use lib.ListN.{length};
 ghost use Rattle.stream.specs.Stage.{AllLow, FirstHigh, IsMin, StoppedAt};
-use crate::Validation;
+use crate::Stop;
 use crate::Verdict;
 use crate::at;
 
@@ -57,7 +57,7 @@ pub fn first_high(s: &[u8], from: usize, limit: usize) -> usize
 }
 
 // What stopped a search for high bytes at `stop`: a high byte, or the end.
-pub fn stopped(s: &[u8], stop: usize) -> Validation
+pub fn stopped(s: &[u8], stop: usize) -> Stop
     ensures { λ r. ⌜ StoppedAt (now (s .entry)) stop r ⌝ }
 {
     if stop < s.len() {

@@ -2,10 +2,12 @@
 ghost use mathlib.Core.Path.{_≡_};
 ghost use Rattle.stream.specs.Layout.{kindOf, telegramFrames, payloadLength};
 ghost use Rattle.stream.specs.Validation.{number, validationOf};
+ghost use Rattle.stream.specs.Stage.{ReachedAll};
 
 mod frame;
 mod header;
 mod high_bytes;
+mod unused;
 
 // The kinds of streams.
 pub enum Kind {
@@ -15,7 +17,7 @@ pub enum Kind {
     Unknown,
 }
 
-// What is said of a stretch of bytes (document 01's verdicts V0 to V7).
+// What is said of a stretch of bytes (document 01's verdicts V0 to V7; by request No. 3 V5 is never given).
 pub enum Verdict {
     // V0: the stretch begins with one whole valid stream.
     Whole,
@@ -27,8 +29,6 @@ pub enum Verdict {
     UnknownVersion,
     // V4: the header's checksum, or a datagram's, is wrong.
     HeaderChecksum,
-    // V5: a septet bit that stands for no byte is set.
-    UnusedSeptetBit,
     // V6: a frame's checksum is wrong.
     FrameChecksum,
     // V7: the stretch ends first.
@@ -46,24 +46,30 @@ impl Verdict {
             Verdict::HighByte => 2,
             Verdict::UnknownVersion => 3,
             Verdict::HeaderChecksum => 4,
-            Verdict::UnusedSeptetBit => 5,
             Verdict::FrameChecksum => 6,
             Verdict::Ended => 7,
         }
     }
 }
 
-// A verdict's number, with the offset that it was reached at.
+// A verdict's number, with the offset that it was reached at, and how many blocks of a whole stream have unused septet bits set.
 #[repr(C)]
 pub struct Validation {
     pub verdict: u8,
     pub offset: usize,
+    pub unused_septets: usize,
 }
 
-fn at(verdict: Verdict, offset: usize) -> Validation
+// Where the search for faults stopped, and the verdict's number.
+struct Stop {
+    verdict: u8,
+    offset: usize,
+}
+
+fn at(verdict: Verdict, offset: usize) -> Stop
     ensures { λ r. ⌜ r ≡ record { verdict = number verdict; offset = offset } ⌝ }
 {
-    Validation {
+    Stop {
         verdict: verdict.number(),
         offset,
     }
@@ -101,9 +107,9 @@ pub fn payload_length(kind: Kind, frames: u8) -> usize
     }
 }
 
-// The verdict on the stream that `input` begins with. It stops at the first fault.
-pub fn validate(input: &[u8]) -> Validation
-    ensures { λ r. ⌜ r ≡ validationOf (now (input .entry)) ⌝ }
+// The verdict on the stream that `input` begins with: its first fault, or that it is whole.
+fn first_fault(input: &[u8]) -> Stop
+    ensures { λ r. ⌜ ReachedAll (now (input .entry)) r ⌝ }
 {
     if input.len() == 0 {
         return at(Verdict::Ended, 0);
@@ -116,4 +122,25 @@ pub fn validate(input: &[u8]) -> Validation
         return high_bytes::stopped(input, stop);
     }
     header::validate(input)
+}
+
+// The verdict on the stream that `input` begins with. It stops at the first fault.
+pub fn validate(input: &[u8]) -> Validation
+    ensures { λ r. ⌜ r ≡ validationOf (now (input .entry)) ⌝ }
+{
+    let stop = first_fault(input);
+    let verdict = stop.verdict;
+    let offset = stop.offset;
+    if verdict != 0 {
+        return Validation {
+            verdict,
+            offset,
+            unused_septets: 0,
+        };
+    }
+    Validation {
+        verdict,
+        offset,
+        unused_septets: unused::in_stream(input),
+    }
 }

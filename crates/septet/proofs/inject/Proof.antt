@@ -1,7 +1,7 @@
 -- `septet::inject` meets its contract: after i turns i bytes have their top bits, the rest of the septet is what i halvings leave, and no byte was high.
 -- Assumes nothing.
 use borrow.Author.Needs.{needs}
-use borrow.Author.Tests.{lt-ltb, le-ltb, lt-leb, le-leb, eq-eqb, ne-eqb}
+use borrow.Author.Tests.{lt-ltb, le-ltb, lt-leb, le-leb}
 use mathlib.Core.Path.{_≡_, refl, ap, _∙_, sym}
 use mathlib.Core.Bool.{false, or-true}
 use mathlib.Core.List.{List}
@@ -97,28 +97,13 @@ loop-again c =
           ∙ ap (padded (i + 1)) (rw byte at (withTopBits-more septet bytes i rest h (inv .1))),
     )
 
-refused-requires-4 : tie.Need-refused-requires-4 Inv-loop μ-loop
-refused-requires-4 c κs = search needs
-
 returns-4 : tie.Need-returns-4 Inv-loop μ-loop
 unfolding choose
 returns-4 c =
-    let used = c .before .before .before .before .before .before .args .used in
-    let septet = c .before .before .before .before .before .before .args .septet in
-    let e : c .before .before .before .loop .i ≡ used = omega arith in
-    let rest : c .before .before .before .loop .rest ≡ unusedBits used septet = rw e at (c .before .before .before .loop .inv .1) in
-    c .refused4 .ensures ∙ simp (ne-eqb (unusedBits used septet) 0 (λ z. omega arith), or-true)
-
-returns-5 : tie.Need-returns-5 Inv-loop μ-loop
-unfolding choose
-returns-5 c =
-    let used = c .before .before .before .before .before .args .used in
-    let septet = c .before .before .before .before .before .args .septet in
-    let inv = c .before .before .loop .inv in
-    let e : c .before .before .loop .i ≡ used = omega arith in
-    let rest : c .before .before .loop .rest ≡ unusedBits used septet = rw e at (inv .1) in
-    let none : unusedBits used septet ≡ 0 = omega arith in
-    simp (le-ltb _ _ (c .before .before .before .before .if1 .left), rw e at (inv .2), lt-leb _ _ (c .before .before .before .if2 .left), eq-eqb _ _ none)
+    let used = c .before .before .before .before .args .used in
+    let inv = c .before .loop .inv in
+    let e : c .before .loop .i ≡ used = omega arith in
+    simp (le-ltb _ _ (c .before .before .before .if1 .left), rw e at (inv .2), lt-leb _ _ (c .before .before .if2 .left))
     (ap (λ (l : List ℕ). record { number = 0; bytes = l; length = used; septet = 0 }) (rw e at (inv .3)))
 
 pub inject-spec : {M : Type 1} → statement M
@@ -141,6 +126,4 @@ inject-spec =
     add-i
     loop-less
     loop-again
-    refused-requires-4
-    returns-4
-    returns-5)
+    returns-4)

@@ -1,54 +1,29 @@
--- `stream::validate` meets its contract: each answer is what the stretch reaches, which is the definition's answer. Assumes nothing.
-use native.Mathlib.Omega.{arith}
-use mathlib.Core.Path.{_∙_}
-use Rattle.stream.proofs.Headers.{nothing, no-sync, address-stops, address-clean}
-use Rattle.stream.proofs.Reached.{sound}
+-- `stream::validate` meets its contract: what is reached is the definition's answer, and a whole stream is counted. Assumes nothing.
+use mathlib.Core.Path.{_≡_, sym, ap, _∙_}
+use borrow.Author.Tests.{eq-eqb, ne-eqb}
+use Rattle.basics.specs.Choice.{choose}
+use Rattle.stream.specs.declared.Validation.{Validation}
+use Rattle.stream.proofs.Reached.{sound, whole-clean}
 use borrow.Author.Needs.{needs}
 use Rattle.stream.proofs.validate.Statement.{statement}
 use Rattle.stream.proofs.validate.Tie as tie
 
-at-requires : tie.Need-at-requires
-at-requires c κs = search needs
+first-fault-requires : tie.Need-first-fault-requires
+first-fault-requires c κs = search needs
 
 returns : tie.Need-returns
-returns c = c .at .ensures ∙ sound _ _ _ (nothing _ (c .before .if1 .taken))
+unfolding choose
+returns c = simp (ne-eqb _ 0 (c .if1 .taken)) at (sound _ _ _ (c .before .first-fault .ensures))
 
-shared-slice-read-if2 : tie.Need-shared-slice-read-if2
-shared-slice-read-if2 c = search needs
-
-at-requires-2 : tie.Need-at-requires-2
-at-requires-2 c κs = search needs
+in-stream-requires : tie.Need-in-stream-requires
+in-stream-requires c κs =
+    let told = ap (λ (v : Validation). v .verdict) (sound _ _ _ (c .before .first-fault .ensures)) in
+    whole-clean _ (sym told ∙ c .if1 .left) .held
 
 returns-2 : tie.Need-returns-2
-returns-2 c = c .at2 .ensures ∙ sound _ _ _ (no-sync _ (c .before .if2 .taken) (omega arith))
-
-first-high-requires : tie.Need-first-high-requires
-first-high-requires c κs = search needs
-
-stopped-requires : tie.Need-stopped-requires
-stopped-requires c κs = search needs
-
-returns-3 : tie.Need-returns-3
-returns-3 c =
-    sound _ _ _ (address-stops _ (c .before .before .before .if2 .left) _ (c .before .before .first-high .ensures) _ (c .before .if3 .taken) (c .stopped .ensures))
-
-validate-requires : tie.Need-validate-requires
-validate-requires c κs = address-clean _ (c .before .before .if2 .left) _ (c .before .first-high .ensures) (c .if3 .left)
-
-returns-4 : tie.Need-returns-4
-returns-4 c = sound _ _ _ (c .validate .ensures)
+unfolding choose
+returns-2 c = rw (c .in-stream .ensures) (simp (eq-eqb _ 0 (c .before .if1 .left)) at (sound _ _ _ (c .before .before .first-fault .ensures)))
 
 pub validate-spec : {M : Type 1} → statement M
 validate-spec =
-    tie.close
-    (tie.spec
-    at-requires
-    returns
-    shared-slice-read-if2
-    at-requires-2
-    returns-2
-    first-high-requires
-    stopped-requires
-    returns-3
-    validate-requires
-    returns-4)
+    tie.close (tie.spec first-fault-requires returns in-stream-requires returns-2)

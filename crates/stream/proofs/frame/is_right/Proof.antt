@@ -1,10 +1,10 @@
 -- `stream::frame::is_right` meets its contract: a frame has no fault exactly if it passes every test. Assumes nothing.
-use borrow.Author.Needs.{needs}
 use native.Mathlib.Nat.{sub-zero}
 use mathlib.Core.Path.{sym, _∙_}
 use mathlib.Core.Bool.{true≢false}
 use borrow.Author.Tests.{eqb-true, eq-eqb, not-true, not-false}
-use Rattle.stream.proofs.Frames.{frame-right, clean-low, clean-septet, clean-sum}
+use Rattle.stream.proofs.Frames.{frame-right, clean-low, clean-sum}
+use borrow.Author.Needs.{needs}
 use Rattle.stream.proofs.frame.is_right.Statement.{statement}
 use Rattle.stream.proofs.frame.is_right.Tie as tie
 
@@ -16,18 +16,6 @@ returns c = (
   λ e. absurd (true≢false (sym e)),
   λ clean. sym (not-true _ (c .if1 .taken)) ∙ c .before .all-low .ensures .1 (clean-low _ _ clean (c .before .before .before .pre .1)),
 )
-
-shared-slice-read-if2 : tie.Need-shared-slice-read-if2
-shared-slice-read-if2 c = search needs
-
-cast-if2 : tie.Need-cast-if2
-cast-if2 c = search needs
-
-shr-if2 : tie.Need-shr-if2
-shr-if2 c = search needs
-
-returns-2 : tie.Need-returns-2
-returns-2 c = (λ e. absurd (true≢false (sym e)), λ clean. absurd (c .if2 .taken (clean-septet _ _ clean)))
 
 add-end : tie.Need-add-end
 add-end c = search needs
@@ -47,12 +35,12 @@ checksum-requires c κs = search needs
 shared-slice-read-result : tie.Need-shared-slice-read-result
 shared-slice-read-result c = search needs
 
-returns-3 : tie.Need-returns-3
-returns-3 c =
-    let start = c .before .before .before .before .before .before .before .before in
-    let low = c .before .before .before .before .before .before .all-low .ensures .0 (not-false _ (c .before .before .before .before .before .if1 .left)) in
+returns-2 : tie.Need-returns-2
+returns-2 c =
+    let start = c .before .before .before .before .before .before in
+    let low = c .before .before .before .before .all-low .ensures .0 (not-false _ (c .before .before .before .if1 .left)) in
     let sum = rw sub-zero at (c .before .checksum .ensures) in (
-      λ e. frame-right (start .args .width) (start .args .frame .now) (start .pre .1) low (c .before .before .before .if2 .left) (sym (eqb-true _ _ e) ∙ sum),
+      λ e. frame-right (start .args .width) (start .args .frame .now) (start .pre .1) low (sym (eqb-true _ _ e) ∙ sum),
       λ clean. eq-eqb _ _ (sum ∙ sym (clean-sum _ _ clean)),
     )
 
@@ -62,14 +50,10 @@ is-right-spec =
     (tie.spec
     all-low-requires
     returns
-    shared-slice-read-if2
-    cast-if2
-    shr-if2
-    returns-2
     add-end
     sub-checksum
     part-checksum-start
     part-checksum-end
     checksum-requires
     shared-slice-read-result
-    returns-3)
+    returns-2)

@@ -2,7 +2,7 @@
 use borrow.Author.Needs.{needs}
 use native.Mathlib.Omega.{arith}
 use mathlib.Core.Path.{ap}
-use Rattle.stream.specs.declared.Validation.{Validation}
+use Rattle.stream.specs.declared.Stop.{Stop}
 use Rattle.stream.proofs.high_bytes.stopped.Statement.{statement}
 use Rattle.stream.proofs.high_bytes.stopped.Tie as tie
 
@@ -15,12 +15,12 @@ at-requires-2 c κs = search needs
 returns : tie.Need-returns
 returns c =
     let e = c .at .ensures in
-    record { here = ap (λ (v : Validation). v .offset) e; high = λ inside. ap (λ (v : Validation). v .verdict) e; ends = λ outside. absurd (omega arith) }
+    record { here = ap (λ (v : Stop). v .offset) e; high = λ inside. ap (λ (v : Stop). v .verdict) e; ends = λ outside. absurd (omega arith) }
 
 returns-2 : tie.Need-returns-2
 returns-2 c =
     let e = c .at2 .ensures in
-    record { here = ap (λ (v : Validation). v .offset) e; high = λ inside. absurd (omega arith); ends = λ outside. ap (λ (v : Validation). v .verdict) e }
+    record { here = ap (λ (v : Stop). v .offset) e; high = λ inside. absurd (omega arith); ends = λ outside. ap (λ (v : Stop). v .verdict) e }
 
 pub stopped-spec : {M : Type 1} → statement M
 stopped-spec = tie.close (tie.spec at-requires at-requires-2 returns returns-2)

@@ -1,0 +1,64 @@
+-- Laws of unused septet bits: frame by frame, and how many blocks have them.
+use Prim.Native.Nat.{ℕ, suc, _+_, _-_, _*_, _/_, _%_, _<_, _≤_}
+use native.Mathlib.Omega.{arith}
+use native.Mathlib.Decide.{ℕ-discrete}
+use native.Mathlib.Nat.{mul-suc}
+use mathlib.Core.Path.{_≡_, ap, _∙_}
+use mathlib.Core.Logic.{dite}
+use mathlib.Core.List.{List}
+use borrow.Author.Tests.{eq-eqb, ne-eqb}
+use lib.ListN.{length, getD, drop}
+use lib.Seq.{getD-drop, drop-drop}
+use Rattle.basics.specs.Choice.{choose}
+use Rattle.septet.specs.Septet.{unusedBits}
+use Rattle.stream.specs.Layout.{kind, headerLength, frameWidth, frameCount, streamLength}
+use Rattle.stream.specs.Unused.{unusedFrames, unusedIn, nonzero, countNonzero, unusedSeptets}
+use Rattle.stream.specs.declared.Kind.{Kind}
+use Rattle.stream.specs.declared.Kind.the-variants.{Packet, Datagram, Telegram}
+use Rattle.stream.proofs.Headers.{length-as}
+
+pub nonzero-zero : (n : ℕ) → n ≡ 0 → nonzero n ≡ 0
+unfolding choose
+nonzero-zero n e = simp (eq-eqb n 0 e)
+
+pub nonzero-one : (n : ℕ) → (n ≡ 0 → ⊥) → nonzero n ≡ 1
+unfolding choose
+nonzero-one n e = simp (ne-eqb n 0 e)
+
+pub nonzero-most : (n : ℕ) → nonzero n ≤ 1
+nonzero-most n = dite (ℕ-discrete n 0) (λ e. omega (arith, nonzero-zero n e)) (λ ne. omega (arith, nonzero-one n ne))
+
+-- one frame fewer
+pub unused-step : (width n : ℕ) (s : List ℕ) → 0 < n
+    → countNonzero (unusedFrames width n s) ≡ nonzero (unusedBits width (getD s width 0)) + countNonzero (unusedFrames width (n - 1) (drop (width + 2) s))
+unfolding unusedFrames countNonzero
+unused-step width n s h = let e : n ≡ suc (n - 1) = omega arith in ap (λ (m : ℕ). countNonzero (unusedFrames width m s)) e
+
+-- the same, from a place on
+pub unused-next : (width n : ℕ) (s : List ℕ) (from : ℕ) → 0 < n
+    → countNonzero (unusedFrames width n (drop from s))
+    ≡ nonzero (unusedBits width (getD s (from + width) 0)) + countNonzero (unusedFrames width (n - 1) (drop (from + (width + 2)) s))
+unused-next width n s from h = unused-step width n (drop from s) h ∙ rw (getD-drop, drop-drop)
+
+-- a frame fewer, counted in bytes
+pub frame-fewer : (width n : ℕ) → 0 < n → (width + 2) * n ≡ width + 2 + (width + 2) * (n - 1)
+frame-fewer width n h = let e : n ≡ suc (n - 1) = omega arith in ap (λ (m : ℕ). (width + 2) * m) e ∙ omega (arith, mul-suc (width + 2) (n - 1))
+
+-- of the kind that a match found
+pub unused-as : (s : List ℕ) (K : Kind) → kind s ≡ K → unusedSeptets s ≡ countNonzero (unusedIn K s)
+unfolding unusedSeptets
+unused-as s K e = ap (λ (x : Kind). countNonzero (unusedIn x s)) e
+
+-- a stream that is there, by its kind
+module _ (s : List ℕ) (held : streamLength s ≤ length s) where
+  pub packet-held : kind s ≡ Packet → 10 + 6 * getD s 8 0 ≤ length s
+  unfolding headerLength frameWidth frameCount
+  packet-held e = omega (arith, length-as s Packet e)
+
+  pub datagram-held : kind s ≡ Datagram → 16 ≤ length s
+  unfolding headerLength frameWidth frameCount
+  datagram-held e = omega (arith, length-as s Datagram e)
+
+  pub telegram-held : kind s ≡ Telegram → 8 + 9 * (getD s 6 0 / 32 % 4) ≤ length s
+  unfolding headerLength frameWidth frameCount
+  telegram-held e = omega (arith, length-as s Telegram e)
