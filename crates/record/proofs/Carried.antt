@@ -5,7 +5,7 @@ use native.Mathlib.Decide.{ℕ-discrete}
 use mathlib.Core.Path.{_≡_, refl}
 use mathlib.Core.Logic.{dite}
 use mathlib.Core.Bool.{false, _||_}
-use mathlib.Core.List.{[], _∷_}
+use mathlib.Core.List.{List, [], _∷_}
 use borrow.Author.Tests.{ne-eqb, eq-eqb, eqb-false, le-ltb, ltb-false}
 use lib.Dec.{ltb}
 use lib.ListN.{length}
@@ -107,9 +107,9 @@ lines-of K r carried =
     )
 
 -- its stream is as long as the kind and the frames say
-pub carried-length : (K : Kind) (r : Record) → Carried K r → length (streamAs K r) ≡ headerLength K + (frameWidth K + 2) * framesIn K r
-carried-length K r carried =
-    length-stream K r (carried .known)
+pub carried-length : (K : Kind) (unused : List ℕ) (r : Record) → Carried K r → length (streamAs K unused r) ≡ headerLength K + (frameWidth K + 2) * framesIn K r
+carried-length K unused r carried =
+    length-stream K unused r (carried .known)
     (rw (le-ltb 127 (framesIn K r) (carried .few), eq-eqb (length (r .payload)) (payloadLength K (framesIn K r)) (carried .sized)))
 
 abbrev pub kindIn : Record → Kind

@@ -14,7 +14,7 @@ use Rattle.basics.specs.declared.Written.{Written}
 use Rattle.basics.proofs.Table.{last-unasked, last-decides, when-refused}
 use Rattle.stream.specs.Layout.{kindOf}
 use Rattle.stream.specs.declared.Kind.{Kind}
-use Rattle.record.specs.Record.{Record, streamAs, streamOf}
+use Rattle.record.specs.Record.{Record, streamAs, streamWith, streamOf}
 use Rattle.record.specs.Encode.{linesAs, refusal, encodingOf, outputAfter}
 use Rattle.record.proofs.Carried.{numbered}
 
@@ -24,11 +24,11 @@ Answers r out answer after = (answer ≡ encodingOf r (length out)) × (after �
 
 module _ (K : Kind) (r : Record) (out : List ℕ) (told : K ≡ kindOf (r .header .version)) where
   -- the refusal, by the kind's own lines
-  by-lines : refusal r (length out) ≡ first (linesAs K r ++ (tooShort (length out) (streamAs K r) ∷ []))
-  unfolding refusal streamOf
-  by-lines = ap (λ (k : Kind). first (linesAs k r ++ (tooShort (length out) (streamAs k r) ∷ []))) (sym told)
+  by-lines : refusal r (length out) ≡ first (linesAs K r ++ (tooShort (length out) (streamAs K [] r) ∷ []))
+  unfolding refusal streamOf streamWith
+  by-lines = ap (λ (k : Kind). first (linesAs k r ++ (tooShort (length out) (streamAs k [] r) ∷ []))) (sym told)
 
-  by-room : first (linesAs K r) ≡ 0 → refusal r (length out) ≡ choose (ltb (length out) (length (streamAs K r))) 5 0
+  by-room : first (linesAs K r) ≡ 0 → refusal r (length out) ≡ choose (ltb (length out) (length (streamAs K [] r))) 5 0
   by-room none = by-lines ∙ last-decides (linesAs K r) _ 5 (numbered K r) none
 
   refused : (n : ℕ) → n ≢ 0 → refusal r (length out) ≡ n → Answers r out (record { number = n; length = 0 }) out
@@ -39,14 +39,14 @@ module _ (K : Kind) (r : Record) (out : List ℕ) (told : K ≡ kindOf (r .heade
   unwritten n is some = refused n some (by-lines ∙ last-unasked (linesAs K r) _ 5 n is some)
 
   module _ (none : first (linesAs K r) ≡ 0) where
-    pub too-short : length out < length (streamAs K r) → Answers r out (record { number = 5; length = 0 }) out
+    pub too-short : length out < length (streamAs K [] r) → Answers r out (record { number = 5; length = 0 }) out
     unfolding choose
     too-short short = refused 5 (λ e. omega arith) (by-room none ∙ rw (lt-ltb _ _ short))
 
-    pub written : (size : ℕ) (after : List ℕ) → length (streamAs K r) ≡ size → size ≤ length out → after ≡ over (streamAs K r) out
+    pub written : (size : ℕ) (after : List ℕ) → length (streamAs K [] r) ≡ size → size ≤ length out → after ≡ over (streamAs K [] r) out
         → Answers r out (record { number = 0; length = size }) after
-    unfolding choose streamOf
+    unfolding choose streamOf streamWith
     written size after sized fits put =
-        let n : refusal r (length out) ≡ 0 = by-room none ∙ rw (le-ltb (length out) (length (streamAs K r)) (omega arith)) in
-        let stream : streamOf r ≡ streamAs K r = ap (λ (k : Kind). streamAs k r) (sym told) in
+        let n : refusal r (length out) ≡ 0 = by-room none ∙ rw (le-ltb (length out) (length (streamAs K [] r)) (omega arith)) in
+        let stream : streamOf r ≡ streamAs K [] r = ap (λ (k : Kind). streamAs k [] r) (sym told) in
         (simp (n, stream, sized), put ∙ simp (n, stream))

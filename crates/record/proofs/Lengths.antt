@@ -4,6 +4,7 @@ use native.Mathlib.Omega.{arith}
 use mathlib.Core.Path.{_≡_, sym}
 use mathlib.Core.Bool.{false, not, false≢true}
 use borrow.Author.Tests.{ltb-false, eqb-true, not-false}
+use mathlib.Core.List.{List}
 use lib.Dec.{ltb, eqb}
 use lib.ListN.{length, length-append}
 use Rattle.basics.proofs.Choice.{neither}
@@ -30,11 +31,11 @@ abbrev pub lengthWritten : Kind → Record → ℕ
 lengthWritten K r = headerLength K + (frameWidth K + 2) * framesIn K r
 
 -- a stream is as long as its kind and its frames say
-pub length-stream : (K : Kind) (r : Record) → isUnknown K ≡ false → wrongLength K (r .header .command) (length (r .payload)) ≡ false
-    → length (streamAs K r) ≡ lengthWritten K r
+pub length-stream : (K : Kind) (unused : List ℕ) (r : Record) → isUnknown K ≡ false → wrongLength K (r .header .command) (length (r .payload)) ≡ false
+    → length (streamAs K unused r) ≡ lengthWritten K r
 unfolding streamAs kindBytes framesOf framed frameWidth headerLength payloadLength
-length-stream Packet r known h = omega (arith, framed-length 4 (framesIn Packet r) (r .payload) (omega arith))
-length-stream Datagram r known h = simp (length-append, length-lowBits) (omega (arith, right-length Datagram (r .header .command) (length (r .payload)) h))
-length-stream Telegram r known h =
-    omega (arith, framed-length 7 (framesIn Telegram r) (r .payload) (omega (arith, right-length Telegram (r .header .command) (length (r .payload)) h)))
-length-stream Unknown r known h = absurd (false≢true (sym known))
+length-stream Packet unused r known h = omega (arith, framed-length 4 (framesIn Packet r) unused (r .payload) (omega arith))
+length-stream Datagram unused r known h = simp (length-append, length-lowBits) (omega (arith, right-length Datagram (r .header .command) (length (r .payload)) h))
+length-stream Telegram unused r known h =
+    omega (arith, framed-length 7 (framesIn Telegram r) unused (r .payload) (omega (arith, right-length Telegram (r .header .command) (length (r .payload)) h)))
+length-stream Unknown unused r known h = absurd (false≢true (sym known))

@@ -5,7 +5,7 @@ use native.Mathlib.Numerals.{add-one, one-add}
 use native.Mathlib.Nat.{mul-zero, mul-suc}
 use mathlib.Core.Path.{_≡_, ap, sym, _∙_}
 use mathlib.Core.List.{List, [], _∷_, _++_, append-assoc}
-use lib.ListN.{length, take, drop, set, length-append, length-drop}
+use lib.ListN.{length, getD, take, drop, set, length-append, length-drop}
 use lib.Seq.{length-take-le, set-split, take-at, drop-drop}
 use Rattle.basics.specs.Bytes.{over}
 use Rattle.basics.proofs.Over.{over-over, over-behind, part, put}
@@ -15,14 +15,14 @@ use Rattle.record.specs.Record.{withChecksum, withSeptet, framed}
 
 -- ── lengths
 
-pub length-withSeptet : (block : List ℕ) → length (withSeptet block) ≡ length block + 1
-length-withSeptet block = simp (length-append, length-lowBits)
+pub length-withSeptet : (unused : ℕ) (block : List ℕ) → length (withSeptet unused block) ≡ length block + 1
+length-withSeptet unused block = simp (length-append, length-lowBits)
 
 pub length-withChecksum : (block : List ℕ) → length (withChecksum block) ≡ length block + 1
 length-withChecksum block = simp length-append
 
-pub length-frame : (block : List ℕ) → length (withChecksum (withSeptet block)) ≡ length block + 2
-length-frame block = rw (length-withChecksum, length-withSeptet) (omega arith)
+pub length-frame : (unused : ℕ) (block : List ℕ) → length (withChecksum (withSeptet unused block)) ≡ length block + 2
+length-frame unused block = rw (length-withChecksum, length-withSeptet) (omega arith)
 
 -- ── checksums
 
@@ -51,17 +51,17 @@ sum-set l n sum h e =
 pub fewer : (width n : ℕ) → 0 < n → width * n ≡ width * (n - 1) + width
 fewer width n h = let e : n ≡ suc (n - 1) = omega arith in ap (λ (m : ℕ). width * m) e ∙ mul-suc width (n - 1)
 
-pub framed-step : (width n : ℕ) (payload : List ℕ) → 0 < n
-    → framed width n payload ≡ withChecksum (withSeptet (take width payload)) ++ framed width (n - 1) (drop width payload)
+pub framed-step : (width n : ℕ) (unused payload : List ℕ) → 0 < n
+    → framed width n unused payload ≡ withChecksum (withSeptet (getD unused 0 0) (take width payload)) ++ framed width (n - 1) (drop 1 unused) (drop width payload)
 unfolding framed
-framed-step width n payload h = let e : n ≡ suc (n - 1) = omega arith in ap (λ (m : ℕ). framed width m payload) e
+framed-step width n unused payload h = let e : n ≡ suc (n - 1) = omega arith in ap (λ (m : ℕ). framed width m unused payload) e
 
-pub framed-length : (width n : ℕ) (payload : List ℕ) → width * n ≤ length payload → length (framed width n payload) ≡ (width + 2) * n
+pub framed-length : (width n : ℕ) (unused payload : List ℕ) → width * n ≤ length payload → length (framed width n unused payload) ≡ (width + 2) * n
 unfolding framed
-framed-length width zero payload enough = sym (mul-zero (width + 2))
-framed-length width (suc n) payload enough =
+framed-length width zero unused payload enough = sym (mul-zero (width + 2))
+framed-length width (suc n) unused payload enough =
     let less : width * suc n ≡ width * n + width = mul-suc width n in
     let full : length (take width payload) ≡ width = length-take-le width payload (omega arith) in
-    let rest : length (framed width n (drop width payload)) ≡ (width + 2) * n =
-    framed-length width n (drop width payload) (omega (arith, length-drop width payload)) in
+    let rest : length (framed width n (drop 1 unused) (drop width payload)) ≡ (width + 2) * n =
+    framed-length width n (drop 1 unused) (drop width payload) (omega (arith, length-drop width payload)) in
     rw (length-append, length-frame, full, rest) (omega (arith, mul-suc (width + 2) n))

@@ -1,4 +1,4 @@
--- What is whole can be written: its record is writable, and is written as the bytes that it was read from.
+-- What is whole can be written: its record is writable and, with its unused septet bits, is the bytes that it was read from.
 use Prim.Native.Nat.{ℕ, zero, suc, _+_, _*_, _/_, _%_, _^_, _<_, _≤_}
 use native.Mathlib.Omega.{arith}
 use mathlib.Core.Path.{_≡_, refl, sym, ap, ap₂, _∙_}
@@ -10,19 +10,20 @@ use Rattle.basics.specs.Bytes.{AllBelow}
 use Rattle.basics.specs.Words.{wordBytes}
 use Rattle.basics.proofs.Bytes.{take-below}
 use Rattle.checksum.specs.Checksum.{checksumOf}
-use Rattle.septet.specs.Septet.{withTopBits}
+use Rattle.septet.specs.Septet.{withTopBits, unusedBits}
 use Rattle.septet.proofs.Laws.{length-withTopBits, withTopBits-below, unused-below}
 use Rattle.stream.specs.Layout.{kind, headerLength, frameWidth, frameCount, lengthAs, payloadLength, telegramFrames}
+use Rattle.stream.specs.Unused.{unusedIn}
 use Rattle.stream.specs.Validation.{validationOf}
 use Rattle.stream.specs.declared.Kind.{Kind}
 use Rattle.stream.specs.declared.Kind.the-variants.{Packet, Datagram, Telegram, Unknown}
 use Rattle.stream.proofs.Headers.{headerLength-least, length-as}
 use Rattle.stream.proofs.Reached.{whole-clean}
-use Rattle.stream.proofs.Whole.{WholeAs, FrameRight, whole-of-clean, drop-frame}
+use Rattle.stream.proofs.Whole.{WholeAs, FrameSum, whole-of-clean, drop-frame}
 use Rattle.record.specs.Encode.{isUnknown, InRange, Writable}
-use Rattle.record.specs.Record.{withChecksum, withSeptet, framed, framesOf, framesIn, addressBytes, kindBytes, streamAs, streamOf, recordAs, recordOf, commandIn, payloadIn}
+use Rattle.record.specs.Record.{withChecksum, withSeptet, framed, framesOf, framesIn, addressBytes, kindBytes, streamAs, streamWith, streamOf, recordAs, recordOf, commandIn, payloadIn, blockWidth, blockCount, UnusedAs, UnusedFor}
 use Rattle.record.proofs.Carried.{Carried, CommandLow, carried-length, carried-writable}
-use Rattle.record.proofs.Frames.{take-next, withSeptet-again, unframed-length, unframed-below, framed-unframed}
+use Rattle.record.proofs.Frames.{take-next, withSeptet-again, unframed-length, unframed-below, framed-unframed, unused-length, unused-small}
 
 -- ── the payload
 
@@ -62,7 +63,7 @@ module _ (K : Kind) (s : List ℕ) (whole : WholeAs K s) where
   frames-low : (k : ℕ) → k < (frameWidth K + 2) * frameCount K s → getD (drop (headerLength K) s) k 0 < 128
   frames-low k h = rw (getD-drop (headerLength K) s k 0) (whole .low (headerLength K + k) (omega (arith, headerLength-least K)) (omega arith))
 
-  frames-right : (f : ℕ) → f < frameCount K s → FrameRight (frameWidth K) (drop (headerLength K) s) ((frameWidth K + 2) * f)
+  frames-right : (f : ℕ) → f < frameCount K s → FrameSum (frameWidth K) (drop (headerLength K) s) ((frameWidth K + 2) * f)
   frames-right f h = drop-frame (frameWidth K) s (headerLength K) ((frameWidth K + 2) * f) (whole .frames f h)
 
   frames-held : lengthAs K s ≤ length s → (frameWidth K + 2) * frameCount K s ≤ length (drop (headerLength K) s)
@@ -139,9 +140,9 @@ module _ (s : List ℕ) (w : validationOf s .verdict ≡ 0) where
 
   -- what is written for it is as long
   pub whole-length : length (streamOf (recordOf s)) ≡ validationOf s .offset
-  unfolding recordOf streamOf
+  unfolding recordOf streamOf streamWith
   whole-length =
-      carried-length (kind s) (recordAs (kind s) s) (carried-as (kind s) s (whole-parts .whole) (whole-parts .held))
+      carried-length (kind s) [] (recordAs (kind s) s) (carried-as (kind s) s (whole-parts .whole) (whole-parts .held))
       ∙ ap (λ (f : ℕ). headerLength (kind s) + (frameWidth (kind s) + 2) * f) (counted (kind s) s (whole-parts .held))
       ∙ sym (whole-parts .sized)
 
@@ -177,11 +178,11 @@ join s j n m = rw (← drop-drop n j s) (sym (take-add n m (drop j s)))
 record KindAgain (K : Kind) (s : List ℕ) : Type 0 where
   size : ℕ
   sized : size + 7 ≡ headerLength K
-  bytes : kindBytes K (recordAs K s) ≡ take size (drop 6 s)
+  bytes : kindBytes K (unusedIn K s) (recordAs K s) ≡ take size (drop 6 s)
   sum : getD s (6 + size) 0 ≡ checksumOf (take (5 + size) (drop 1 s))
 
 kind-again : (K : Kind) (s : List ℕ) → WholeAs K s → lengthAs K s ≤ length s → KindAgain K s
-unfolding headerLength kindBytes commandIn payloadIn frameCount frameWidth
+unfolding headerLength kindBytes unusedIn commandIn payloadIn frameCount frameWidth
 kind-again Packet s whole held =
     let word = word-again (getD s 6 0) (getD s 7 0) (header-low Packet s whole 6 (omega arith) (omega arith)) in
     record {
@@ -192,11 +193,10 @@ kind-again Packet s whole held =
     }
 kind-again Datagram s whole held =
     let word = word-again (getD s 6 0) (getD s 7 0) (header-low Datagram s whole 6 (omega arith) (omega arith)) in
-    let septet : getD (drop 8 s) 6 0 < 2 ^ 6 = rw (getD-drop 8 s 6 0) (unused-below 6 (getD s 14 0) (whole .unused)) in
     let low : AllBelow 128 (take 6 (drop 8 s)) =
     take-below 128 6 (drop 8 s) (λ i h. rw (getD-drop 8 s i 0) (header-low Datagram s whole (8 + i) (omega arith) (omega arith))) in
-    let block : withSeptet (withTopBits (getD s 14 0) (take 6 (drop 8 s))) ≡ take 7 (drop 8 s) =
-    rw (getD-drop 8 s 6 0) at (withSeptet-again 6 (drop 8 s) (omega (arith, length-drop 8 s)) low septet) in
+    let block : withSeptet (unusedBits 6 (getD s 14 0)) (withTopBits (getD s 14 0) (take 6 (drop 8 s))) ≡ take 7 (drop 8 s) =
+    rw (getD-drop 8 s 6 0) at (withSeptet-again 6 (drop 8 s) (omega (arith, length-drop 8 s)) low) in
     record {
       size = 9;
       sized = refl;
@@ -208,11 +208,11 @@ kind-again Telegram s whole held =
 kind-again Unknown s whole held = absurd (whole .sum)
 
 header-again : (K : Kind) (s : List ℕ) → WholeAs K s → lengthAs K s ≤ length s
-    → 0xAA ∷ withChecksum (addressBytes (recordAs K s .header) ++ kindBytes K (recordAs K s)) ≡ take (headerLength K) s
+    → 0xAA ∷ withChecksum (addressBytes (recordAs K s .header) ++ kindBytes K (unusedIn K s) (recordAs K s)) ≡ take (headerLength K) s
 header-again K s whole held =
     let k = kind-again K s whole held in
     let n = 5 + k .size in
-    let body : addressBytes (recordAs K s .header) ++ kindBytes K (recordAs K s) ≡ take n (drop 1 s) =
+    let body : addressBytes (recordAs K s .header) ++ kindBytes K (unusedIn K s) (recordAs K s) ≡ take n (drop 1 s) =
     ap₂ _++_ (address-again K s whole ∙ sym (cells-take s 1 5 (omega (arith, headerLength-least K)))) (k .bytes) ∙ join s 1 5 (k .size) in
     let place : 1 + n ≡ 6 + k .size = omega arith in
     let sum : getD (drop 1 s) n 0 ≡ checksumOf (take n (drop 1 s)) = rw (getD-drop 1 s n 0, place) (k .sum) in
@@ -223,8 +223,8 @@ header-again K s whole held =
     ap₂ _++_ first (ap withChecksum body ∙ behind) ∙ join s 0 1 (n + 1) ∙ ap (λ (i : ℕ). take i s) all
 
 counted-again : (K : Kind) (s : List ℕ) → WholeAs K s → lengthAs K s ≤ length s
-    → framed (frameWidth K) (frameCount K s) (payloadIn K s) ≡ take ((frameWidth K + 2) * frameCount K s) (drop (headerLength K) s)
-unfolding headerLength payloadIn frameCount frameWidth framed
+    → framed (frameWidth K) (frameCount K s) (unusedIn K s) (payloadIn K s) ≡ take ((frameWidth K + 2) * frameCount K s) (drop (headerLength K) s)
+unfolding headerLength payloadIn frameCount frameWidth framed unusedIn
 counted-again Packet s whole held =
     framed-unframed 4 (getD s 8 0) (drop 10 s) (frames-held Packet s whole held) (frames-low Packet s whole) (frames-right Packet s whole)
 counted-again Datagram s whole held = refl
@@ -233,17 +233,39 @@ counted-again Telegram s whole held =
 counted-again Unknown s whole held = absurd (whole .sum)
 
 frames-again : (K : Kind) (s : List ℕ) → WholeAs K s → lengthAs K s ≤ length s
-    → framed (frameWidth K) (framesIn K (recordAs K s)) (payloadIn K s) ≡ take ((frameWidth K + 2) * frameCount K s) (drop (headerLength K) s)
-frames-again K s whole held = ap (λ (f : ℕ). framed (frameWidth K) f (payloadIn K s)) (counted K s held) ∙ counted-again K s whole held
+    → framed (frameWidth K) (framesIn K (recordAs K s)) (unusedIn K s) (payloadIn K s) ≡ take ((frameWidth K + 2) * frameCount K s) (drop (headerLength K) s)
+frames-again K s whole held = ap (λ (f : ℕ). framed (frameWidth K) f (unusedIn K s) (payloadIn K s)) (counted K s held) ∙ counted-again K s whole held
 
-stream-again : (K : Kind) (s : List ℕ) → WholeAs K s → lengthAs K s ≤ length s → streamAs K (recordAs K s) ≡ take (lengthAs K s) s
+stream-again : (K : Kind) (s : List ℕ) → WholeAs K s → lengthAs K s ≤ length s → streamAs K (unusedIn K s) (recordAs K s) ≡ take (lengthAs K s) s
 unfolding streamAs
 stream-again K s whole held =
     ap₂ _++_ (header-again K s whole held) (frames-again K s whole held) ∙ sym (take-add (headerLength K) ((frameWidth K + 2) * frameCount K s) s)
 
--- a whole stream is written again as it stood
-pub whole-again : (s : List ℕ) → validationOf s .verdict ≡ 0 → streamOf (recordOf s) ≡ take (validationOf s .offset) s
-unfolding recordOf streamOf
-whole-again s w =
-    let parts = whole-parts s w in
-    stream-again (kind s) s (parts .whole) (parts .held) ∙ ap (λ (n : ℕ). take n s) (sym (parts .sized))
+-- a number for each block, and each fits
+unused-fits : (K : Kind) (s : List ℕ) → WholeAs K s → lengthAs K s ≤ length s → UnusedAs K (unusedIn K s) (recordAs K s)
+unfolding headerLength frameWidth unusedIn blockWidth blockCount
+unused-fits Packet s whole held =
+    record {
+      few = omega (arith, unused-length 4 (frameCount Packet s) (drop 10 s), counted Packet s held);
+      small = unused-small 4 (frameCount Packet s) (drop 10 s) (omega arith) (frames-low Packet s whole);
+    }
+unused-fits Datagram s whole held =
+    record { few = omega arith; small = (unused-below 6 (getD s 14 0) (omega arith) (header-low Datagram s whole 14 (omega arith) (omega arith)), tt) }
+unused-fits Telegram s whole held =
+    record {
+      few = omega (arith, unused-length 7 (frameCount Telegram s) (drop 8 s), counted Telegram s held);
+      small = unused-small 7 (frameCount Telegram s) (drop 8 s) (omega arith) (frames-low Telegram s whole);
+    }
+unused-fits Unknown s whole held = record { few = omega arith; small = tt }
+
+module _ (s : List ℕ) (w : validationOf s .verdict ≡ 0) where
+  -- a whole stream is that of its record, with its unused septet bits
+  pub whole-again : streamWith (unusedIn (kind s) s) (recordOf s) ≡ take (validationOf s .offset) s
+  unfolding recordOf streamWith
+  whole-again =
+      let parts = whole-parts s w in
+      stream-again (kind s) s (parts .whole) (parts .held) ∙ ap (λ (n : ℕ). take n s) (sym (parts .sized))
+
+  pub whole-unused : UnusedFor (unusedIn (kind s) s) (recordOf s)
+  unfolding recordOf
+  whole-unused = let parts = whole-parts s w in unused-fits (kind s) s (parts .whole) (parts .held)

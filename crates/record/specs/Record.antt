@@ -1,10 +1,11 @@
 -- A record, as a whole stream says it and as it is written.
-use Prim.Native.Nat.{ℕ, zero, suc, _+_, _/_}
+use Prim.Native.Nat.{ℕ, zero, suc, _+_, _-_, _/_, _^_, _≤_}
 use mathlib.Core.List.{List, [], _∷_, _++_}
 use lib.ListN.{length, getD, take, drop}
+use Rattle.basics.specs.Bytes.{AllBelow}
 use Rattle.basics.specs.Words.{wordAt, wordBytes}
 use Rattle.checksum.specs.Checksum.{checksumOf}
-use Rattle.septet.specs.Septet.{septetOf, lowBits, withTopBits}
+use Rattle.septet.specs.Septet.{lowBits, withTopBits, septetWith}
 use Rattle.stream.specs.Layout.{kindOf, kind, frameWidth, frameCount, telegramFrames}
 use Rattle.stream.specs.declared.Kind.{Kind}
 use Rattle.stream.specs.declared.Kind.the-variants.{Packet, Datagram, Telegram, Unknown}
@@ -48,20 +49,21 @@ recordAs K s =
 unfoldable pub recordOf : List ℕ → Record
 recordOf s = recordAs (kind s) s
 
--- ── writing
+-- ── on the wire
 
 -- bytes with their checksum behind them
 abbrev pub withChecksum : List ℕ → List ℕ
 withChecksum block = block ++ (checksumOf block ∷ [])
 
--- a block's bytes without their top bits, with the septet behind them
-abbrev pub withSeptet : List ℕ → List ℕ
-withSeptet block = lowBits block ++ (septetOf block ∷ [])
+-- a block's bytes without their top bits, with the septet behind them and the unused bits in it
+abbrev pub withSeptet : ℕ → List ℕ → List ℕ
+withSeptet unused block = lowBits block ++ (septetWith unused block ∷ [])
 
--- n frames of the payload
-unfoldable pub framed : ℕ → ℕ → List ℕ → List ℕ
-framed width zero payload = []
-framed width (suc n) payload = withChecksum (withSeptet (take width payload)) ++ framed width n (drop width payload)
+-- n frames of the payload, with the unused septet bits of each; none are set in a frame for which none are given
+unfoldable pub framed : ℕ → ℕ → List ℕ → List ℕ → List ℕ
+framed width zero unused payload = []
+framed width (suc n) unused payload =
+    withChecksum (withSeptet (getD unused 0 0) (take width payload)) ++ framed width n (drop 1 unused) (drop width payload)
 
 -- the frame count F: of a packet by its payload's length n, of a telegram fixed by the command
 unfoldable pub framesOf : Kind → ℕ → ℕ → ℕ
@@ -78,17 +80,46 @@ framesIn K r = framesOf K (r .header .command) (length (r .payload))
 abbrev pub addressBytes : Header → List ℕ
 addressBytes h = wordBytes (h .destination) ++ (wordBytes (h .source) ++ (h .version ∷ []))
 
--- offset 6 up to the header's checksum, or a datagram's
-unfoldable pub kindBytes : Kind → Record → List ℕ
-kindBytes Packet r = wordBytes (r .header .command) ++ (framesIn Packet r ∷ [])
-kindBytes Datagram r = wordBytes (r .header .command) ++ withSeptet (r .payload)
-kindBytes Telegram r = r .header .command ∷ []
-kindBytes Unknown r = []
+-- offset 6 up to the header's checksum, or a datagram's: only a datagram has a septet there
+unfoldable pub kindBytes : Kind → List ℕ → Record → List ℕ
+kindBytes Packet unused r = wordBytes (r .header .command) ++ (framesIn Packet r ∷ [])
+kindBytes Datagram unused r = wordBytes (r .header .command) ++ withSeptet (getD unused 0 0) (r .payload)
+kindBytes Telegram unused r = r .header .command ∷ []
+kindBytes Unknown unused r = []
 
 -- 0xAA, the header with its checksum, and the frames: of a record that is taken as one of a kind
-unfoldable pub streamAs : Kind → Record → List ℕ
-streamAs K r = 0xAA ∷ (withChecksum (addressBytes (r .header) ++ kindBytes K r) ++ framed (frameWidth K) (framesIn K r) (r .payload))
+unfoldable pub streamAs : Kind → List ℕ → Record → List ℕ
+streamAs K unused r =
+    0xAA ∷ (withChecksum (addressBytes (r .header) ++ kindBytes K unused r) ++ framed (frameWidth K) (framesIn K r) unused (r .payload))
 
--- the stream that writing gives for a record
+-- the stream of a record, with the unused septet bits of each of its blocks; checksums cover the bytes as they stand
+unfoldable pub streamWith : List ℕ → Record → List ℕ
+streamWith unused r = streamAs (kindOf (r .header .version)) unused r
+
+-- the stream that writing gives for a record; request No. 3: "Writing still puts zeros there"
 unfoldable pub streamOf : Record → List ℕ
-streamOf r = streamAs (kindOf (r .header .version)) r
+streamOf r = streamWith [] r
+
+-- ── which unused septet bits there can be
+
+-- the payload bytes of a block: as many of its septet's seven bits are in use
+unfoldable pub blockWidth : Kind → ℕ
+blockWidth Packet = 4
+blockWidth Datagram = 6
+blockWidth Telegram = 7
+blockWidth Unknown = 7
+
+-- the blocks of a record, by its frames
+unfoldable pub blockCount : Kind → ℕ → ℕ
+blockCount Packet frames = frames
+blockCount Datagram frames = 1
+blockCount Telegram frames = frames
+blockCount Unknown frames = 0
+
+-- a number for each block at most, that its septet has room for: of a record that is taken as one of a kind
+pub record UnusedAs (K : Kind) (unused : List ℕ) (r : Record) : Type 0 where
+  pub few : length unused ≤ blockCount K (framesIn K r)
+  pub small : AllBelow (2 ^ (7 - blockWidth K)) unused
+
+abbrev pub UnusedFor : List ℕ → Record → Type 0
+UnusedFor unused r = UnusedAs (kindOf (r .header .version)) unused r

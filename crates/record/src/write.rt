@@ -48,10 +48,10 @@ fn sum(out: &mut [u8], count: usize)
     out[count] = checksum::checksum(&out[..count]);
 }
 
-// A block without its top bits, and its septet.
+// A block without its top bits, and its septet, in which no unused bit is set.
 fn block(block: &[u8], out: &mut [u8])
     requires { ⌜ (length (now block) ≤ 7) × (length (now block) < length (now out)) ⌝ }
-    ensures { λ r. ⌜ now (out .exit) ≡ over (withSeptet (now (block .entry))) (now (out .entry)) ⌝ }
+    ensures { λ r. ⌜ now (out .exit) ≡ over (withSeptet 0 (now (block .entry))) (now (out .entry)) ⌝ }
 {
     let mut septet: u8 = 0;
     let mut i = block.len();
@@ -65,7 +65,7 @@ fn block(block: &[u8], out: &mut [u8])
 
 fn frame(payload: &[u8], out: &mut [u8])
     requires { ⌜ (length (now payload) ≤ 7) × (length (now payload) + 1 < length (now out)) ⌝ }
-    ensures { λ r. ⌜ now (out .exit) ≡ over (withChecksum (withSeptet (now (payload .entry)))) (now (out .entry)) ⌝ }
+    ensures { λ r. ⌜ now (out .exit) ≡ over (withChecksum (withSeptet 0 (now (payload .entry)))) (now (out .entry)) ⌝ }
 {
     block(payload, out);
     sum(out, payload.len() + 1);
@@ -73,7 +73,7 @@ fn frame(payload: &[u8], out: &mut [u8])
 
 fn frames(payload: &[u8], width: usize, count: usize, out: &mut [u8])
     requires { ⌜ (width ≤ 7) × (width * count ≤ length (now payload)) × (width * count + 2 * count ≤ length (now out)) ⌝ }
-    ensures { λ r. ⌜ now (out .exit) ≡ over (framed width count (now (payload .entry))) (now (out .entry)) ⌝ }
+    ensures { λ r. ⌜ now (out .exit) ≡ over (framed width count [] (now (payload .entry))) (now (out .entry)) ⌝ }
 {
     let mut left = count;
     let mut from = 0;
@@ -89,7 +89,7 @@ fn frames(payload: &[u8], width: usize, count: usize, out: &mut [u8])
 
 fn packet(header: Header, payload: &[u8], out: &mut [u8])
     requires { ⌜ Fits Packet (header .command) (length (now payload)) (length (now out)) ⌝ }
-    ensures { λ r. ⌜ now (out .exit) ≡ over (streamAs Packet (record { header = header; payload = now (payload .entry) })) (now (out .entry)) ⌝ }
+    ensures { λ r. ⌜ now (out .exit) ≡ over (streamAs Packet [] (record { header = header; payload = now (payload .entry) })) (now (out .entry)) ⌝ }
 {
     let command = header.command;
     let count = payload.len() / 4;
@@ -102,7 +102,7 @@ fn packet(header: Header, payload: &[u8], out: &mut [u8])
 
 fn datagram(header: Header, payload: &[u8], out: &mut [u8])
     requires { ⌜ Fits Datagram (header .command) (length (now payload)) (length (now out)) ⌝ }
-    ensures { λ r. ⌜ now (out .exit) ≡ over (streamAs Datagram (record { header = header; payload = now (payload .entry) })) (now (out .entry)) ⌝ }
+    ensures { λ r. ⌜ now (out .exit) ≡ over (streamAs Datagram [] (record { header = header; payload = now (payload .entry) })) (now (out .entry)) ⌝ }
 {
     let command = header.command;
     address(header, out);
@@ -113,7 +113,7 @@ fn datagram(header: Header, payload: &[u8], out: &mut [u8])
 
 fn telegram(header: Header, payload: &[u8], out: &mut [u8])
     requires { ⌜ Fits Telegram (header .command) (length (now payload)) (length (now out)) ⌝ }
-    ensures { λ r. ⌜ now (out .exit) ≡ over (streamAs Telegram (record { header = header; payload = now (payload .entry) })) (now (out .entry)) ⌝ }
+    ensures { λ r. ⌜ now (out .exit) ≡ over (streamAs Telegram [] (record { header = header; payload = now (payload .entry) })) (now (out .entry)) ⌝ }
 {
     let command = header.command;
     let count = stream::telegram_frames(command);
@@ -126,7 +126,7 @@ fn telegram(header: Header, payload: &[u8], out: &mut [u8])
 // The stream of a record that fits its kind and the output.
 pub fn stream(kind: Kind, header: Header, payload: &[u8], out: &mut [u8])
     requires { ⌜ Fits kind (header .command) (length (now payload)) (length (now out)) ⌝ }
-    ensures { λ r. ⌜ now (out .exit) ≡ over (streamAs kind (record { header = header; payload = now (payload .entry) })) (now (out .entry)) ⌝ }
+    ensures { λ r. ⌜ now (out .exit) ≡ over (streamAs kind [] (record { header = header; payload = now (payload .entry) })) (now (out .entry)) ⌝ }
 {
     match kind {
         Kind::Packet => packet(header, payload, out),

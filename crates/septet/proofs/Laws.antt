@@ -51,15 +51,16 @@ unused-below width s short low =
     let seven : 7 ≡ 7 - width + width = omega arith in
     shr-lt (7 - width) width (rw (← seven) low)
 
-module _ (unused : ℕ) (b : List ℕ) (a : AllBelow 256 b) where
-  pub septetWith-unused : unusedBits (length b) (septetWith unused b) ≡ unused
-  septetWith-unused = high unused (length b) (septetOf-below b a)
+module _ (unused : ℕ) (b : List ℕ) (a : AllBelow 256 b) (width : ℕ) (sized : length b ≡ width) where
+  pub septetWith-unused : unusedBits width (septetWith unused b) ≡ unused
+  septetWith-unused = ap (λ (n : ℕ). unusedBits n (septetWith unused b)) (sym sized) ∙ high unused (length b) (septetOf-below b a)
 
-  pub septetWith-below : length b ≤ 7 → unused < 2 ^ (7 - length b) → septetWith unused b < 128
+  pub septetWith-below : width ≤ 7 → unused < 2 ^ (7 - width) → septetWith unused b < 128
   septetWith-below short few =
-      let seven : 7 - length b + length b ≡ 7 = omega arith in
-      let all : 2 ^ (7 - length b) * 2 ^ length b ≡ 128 = sym (pow-add 2 (7 - length b) (length b)) ∙ ap (λ (n : ℕ). 2 ^ n) seven in
-      omega (arith, septetOf-below b a, suc-mul unused (2 ^ length b), mul-le-mul-right (2 ^ length b) few)
+      let seven : 7 - width + width ≡ 7 = omega arith in
+      let all : 2 ^ (7 - width) * 2 ^ width ≡ 128 = sym (pow-add 2 (7 - width) width) ∙ ap (λ (n : ℕ). 2 ^ n) seven in
+      let own : septetOf b < 2 ^ width = rw sized at (septetOf-below b a) in
+      rw sized (omega (arith, suc-mul unused (2 ^ width), mul-le-mul-right (2 ^ width) few))
 
 -- with none it is the block's own
 pub septetWith-none : (b : List ℕ) → septetWith 0 b ≡ septetOf b

@@ -13,6 +13,7 @@ use lib.Seq.{drop-cons, drop-length}
 use Rattle.basics.specs.Choice.{choose}
 use Rattle.stream.specs.Layout.{streamLength}
 use Rattle.stream.specs.Unused.{unusedSeptets}
+use Rattle.stream.specs.declared.Validation.{Validation}
 use Rattle.stream.specs.Validation.{faultAt, verdictAt, validationFrom, validationOf}
 use Rattle.stream.specs.Stage.{Clean, Reached, whole, ended, found}
 
@@ -139,3 +140,17 @@ whole-clean s w =
 
 pub clean-whole : (s : List ℕ) → Clean (faultAt s) (streamLength s) → streamLength s ≤ length s → validationOf s ≡ verdictAt s 0 (streamLength s)
 clean-whole s clean held = sym (sound s _ _ (whole refl refl clean held))
+
+-- ── its unused septets
+
+said-again : (s : List ℕ) → validationOf s ≡ verdictAt s (validationOf s .verdict) (validationOf s .offset)
+said-again s = sym (sound s _ _ (complete s))
+
+pub whole-counted : (s : List ℕ) → validationOf s .verdict ≡ 0 → validationOf s .«unused_septets» ≡ unusedSeptets s
+unfolding choose
+whole-counted s w = ap (λ (v : Validation). v .«unused_septets») (said-again s) ∙ simp (eq-eqb _ 0 w)
+
+-- where there is no whole stream none are counted
+pub faulty-counted : (s : List ℕ) → (validationOf s .verdict ≡ 0 → ⊥) → validationOf s .«unused_septets» ≡ 0
+unfolding choose
+faulty-counted s bad = ap (λ (v : Validation). v .«unused_septets») (said-again s) ∙ simp (ne-eqb _ 0 bad)

@@ -3,9 +3,9 @@ use Prim.Native.Nat.{ℕ, suc, _+_, _-_, _*_, _/_, _%_, _<_, _≤_}
 use native.Mathlib.Omega.{arith}
 use native.Mathlib.Decide.{ℕ-discrete}
 use native.Mathlib.Nat.{mul-suc}
-use mathlib.Core.Path.{_≡_, ap, _∙_}
+use mathlib.Core.Path.{_≡_, refl, ap, _∙_}
 use mathlib.Core.Logic.{dite}
-use mathlib.Core.List.{List}
+use mathlib.Core.List.{List, [], _∷_}
 use borrow.Author.Tests.{eq-eqb, ne-eqb}
 use lib.ListN.{length, getD, drop}
 use lib.Seq.{getD-drop, drop-drop}
@@ -27,6 +27,24 @@ nonzero-one n e = simp (ne-eqb n 0 e)
 
 pub nonzero-most : (n : ℕ) → nonzero n ≤ 1
 nonzero-most n = dite (ℕ-discrete n 0) (λ e. omega (arith, nonzero-zero n e)) (λ ne. omega (arith, nonzero-one n ne))
+
+pub nonzero-none : (n : ℕ) → nonzero n ≡ 0 → n ≡ 0
+nonzero-none n e = dite (ℕ-discrete n 0) (λ z. z) (λ ne. absurd (omega (arith, nonzero-one n ne)))
+
+-- ── the count of a list
+
+-- a list that is too short has a zero in front
+pub count-first : (l : List ℕ) → countNonzero l ≡ nonzero (getD l 0 0) + countNonzero (drop 1 l)
+unfolding countNonzero
+count-first [] = omega (arith, nonzero-zero 0 refl)
+count-first (n ∷ l) = refl
+
+pub count-short : (l : List ℕ) → length l ≡ 0 → countNonzero l ≡ 0
+unfolding countNonzero
+count-short [] e = refl
+count-short (n ∷ l) e = absurd (omega arith)
+
+-- ── frame by frame
 
 -- one frame fewer
 pub unused-step : (width n : ℕ) (s : List ℕ) → 0 < n

@@ -6,7 +6,7 @@ use lib.Dec.{leb}
 use lib.ListN.{length, getD}
 use Rattle.basics.specs.Choice.{choose}
 use Rattle.stream.specs.Layout.{kind, streamLength}
-use Rattle.stream.specs.Validation.{number, any, headerSum, frameRule, ruleAt, breach, faultAt}
+use Rattle.stream.specs.Validation.{any, headerSum, frameRule, ruleAt, breach, faultAt}
 use Rattle.stream.specs.declared.Kind.{Kind}
 use Rattle.stream.specs.declared.Stop.{Stop}
 

@@ -1,7 +1,7 @@
 -- `encode` meets its contract: what the lines 1 to 4 and the room say. Assumes nothing.
 use Prim.Native.Nat.{ℕ, _+_, _*_}
 use mathlib.Core.Path.{_≡_, ap, _∙_, sym}
-use mathlib.Core.List.{List}
+use mathlib.Core.List.{List, []}
 use lib.ListN.{length}
 use Rattle.basics.specs.Choice.{first}
 use Rattle.stream.specs.Layout.{headerLength, frameWidth}
@@ -41,10 +41,10 @@ said c =
     let K = kind (kindAt c) in
     c .stream-length .ensures ∙ ap (λ (n : ℕ). headerLength K + (frameWidth K + 2) * n) (c .before .frames-of .ensures)
 
-size : (c : tie.After-stream-length) → length (streamAs (kind (kindAt c)) (given (kindAt c))) ≡ c .stream-length .result
+size : (c : tie.After-stream-length) → length (streamAs (kind (kindAt c)) [] (given (kindAt c))) ≡ c .stream-length .result
 size c =
     let p = lines (c .before .before) in
-    length-stream (kind (kindAt c)) (given (kindAt c)) (p .known) (p .payload) ∙ sym (said c)
+    length-stream (kind (kindAt c)) [] (given (kindAt c)) (p .known) (p .payload) ∙ sym (said c)
 
 kind-of-requires : tie.Need-kind-of-requires
 kind-of-requires c κs = search needs

@@ -1,5 +1,5 @@
 -- `stream::validate` meets its contract: what is reached is the definition's answer, and a whole stream is counted. Assumes nothing.
-use mathlib.Core.Path.{_≡_, sym, ap, _∙_}
+use mathlib.Core.Path.{sym, ap, _∙_}
 use borrow.Author.Tests.{eq-eqb, ne-eqb}
 use Rattle.basics.specs.Choice.{choose}
 use Rattle.stream.specs.declared.Validation.{Validation}

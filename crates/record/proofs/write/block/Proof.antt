@@ -9,8 +9,8 @@ use lib.ListN.{length, take, drop, getD, set, length-set, take-append-drop}
 use lib.Seq.{drop-length}
 use Rattle.basics.specs.Bytes.{over}
 use Rattle.basics.proofs.Over.{lent}
-use Rattle.septet.specs.Septet.{septetOf, lowBits}
-use Rattle.septet.proofs.Laws.{length-lowBits}
+use Rattle.septet.specs.Septet.{septetOf, septetWith, lowBits}
+use Rattle.septet.proofs.Laws.{length-lowBits, septetWith-none}
 use Rattle.septet.proofs.Loops.{septetOf-drop, lowBits-drop, pow-back, pow-seven}
 use Rattle.record.proofs.write.block.Statement.{statement}
 use Rattle.record.proofs.write.block.Tie as tie
@@ -95,8 +95,8 @@ returns c =
     let e : loop .i ≡ 0 = omega arith in
     let septet : loop .septet ≡ septetOf block = rw e at (loop .inv .3) in
     let low : loop .out ≡ over (lowBits block) out = rw length-lowBits (rw e at (loop .inv .4)) in
-    lent (lowBits block) (septetOf block ∷ []) out (loop .out) (c .before .before .byte .last .1 .0) (length block) (length-lowBits block) low
-    (rw septet at (c .before .before .byte .ensures))
+    lent (lowBits block) (septetWith 0 block ∷ []) out (loop .out) (c .before .before .byte .last .1 .0) (length block) (length-lowBits block) low
+    (rw (septet, ← septetWith-none block) at (c .before .before .byte .ensures))
 
 pub block-spec : {M : Type 1} → statement M
 block-spec =

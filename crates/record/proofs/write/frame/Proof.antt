@@ -25,8 +25,8 @@ returns c =
     let payload = args .payload .now in
     let block = c .before .before .before .before .before .before .block in
     let sum = c .before .before .sum in
-    summed (withSeptet payload) (args .out .now) (block .last .1 .0) (sum .last .0)
-    (length payload + 1) (length-withSeptet payload) (block .ensures) (sum .ensures)
+    summed (withSeptet 0 payload) (args .out .now) (block .last .1 .0) (sum .last .0)
+    (length payload + 1) (length-withSeptet 0 payload) (block .ensures) (sum .ensures)
 
 pub frame-spec : {M : Type 1} → statement M
 frame-spec = tie.close (tie.spec block-requires add-sum sum-requires same-length returns)

@@ -18,7 +18,7 @@ Inv-loop payload width count out₀ left₀ from₀ at₀ out left from at =
     (done : List ℕ)
     × (length done ≡ at)
     × (out ≡ over done out₀)
-    × (done ++ framed width left (drop from payload) ≡ framed width count payload)
+    × (done ++ framed width left [] (drop from payload) ≡ framed width count [] payload)
     × (from + width * left ≤ length payload)
     × (at + (width * left + 2 * left) ≤ length out₀)
     × (length out ≡ length out₀)
@@ -74,7 +74,7 @@ loop-again c =
     let loop = c .before .before .before .before .before .before .loop in
     let payload = args .payload .now in
     let block = take (args .width) (drop (loop .from) payload) in
-    let frame = withChecksum (withSeptet block) in
+    let frame = withChecksum (withSeptet 0 block) in
     let pos : 0 < loop .left = omega arith in
     let less = fewer (args .width) (loop .left) pos in
     let wide : loop .from + args .width - loop .from ≡ args .width = omega arith in
@@ -84,7 +84,7 @@ loop-again c =
       lent (loop .inv .0) frame (args .out .now) (loop .out) (c .before .before .frame .last .1 .0) (loop .at) (loop .inv .1) (loop .inv .2)
           (rw wide at (c .before .before .frame .ensures)),
       rw (append-assoc (loop .inv .0), ← drop-drop (args .width) (loop .from) payload)
-          (ap (λ (r : List ℕ). loop .inv .0 ++ r) (sym (framed-step (args .width) (loop .left) (drop (loop .from) payload) pos)) ∙ loop .inv .3),
+          (ap (λ (r : List ℕ). loop .inv .0 ++ r) (sym (framed-step (args .width) (loop .left) [] (drop (loop .from) payload) pos)) ∙ loop .inv .3),
       omega (arith, less),
       omega (arith, less),
       omega arith,
@@ -99,7 +99,7 @@ returns c =
     let args = c .before .before .before .before .args in
     let loop = c .before .loop in
     let none : loop .left ≡ 0 = omega arith in
-    let all : loop .inv .0 ≡ framed (args .width) (args .count) (args .payload .now) = sym (append-nil (loop .inv .0)) ∙ rw none at (loop .inv .3) in
+    let all : loop .inv .0 ≡ framed (args .width) (args .count) [] (args .payload .now) = sym (append-nil (loop .inv .0)) ∙ rw none at (loop .inv .3) in
     loop .inv .2 ∙ ap (λ (l : List ℕ). over l (args .out .now)) all
 
 pub frames-spec : {M : Type 1} → statement M

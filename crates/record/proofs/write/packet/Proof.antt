@@ -102,7 +102,7 @@ returns c =
     let out = args .out .now in
     let count = length payload / 4 in
     let body = addressBytes h ++ (wordBytes (h .command) ++ (count ∷ [])) in
-    lent (0xAA ∷ withChecksum body) (framed 4 count payload) out _ _ 10 refl
+    lent (0xAA ∷ withChecksum body) (framed 4 count [] payload) out _ _ 10 refl
     (summed-behind 0xAA body out _ _ 8 refl
     (lent (0xAA ∷ (addressBytes h ++ wordBytes (h .command))) (count ∷ []) out _ _ 8 refl
     (lent (0xAA ∷ addressBytes h) (wordBytes (h .command)) out _ _ 6 refl (address .address .ensures) (command .word .ensures))

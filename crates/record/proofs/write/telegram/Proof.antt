@@ -90,7 +90,7 @@ returns c =
     let payload = args .payload .now in
     let out = args .out .now in
     let body = addressBytes h ++ (h .command ∷ []) in
-    lent (0xAA ∷ withChecksum body) (framed 7 (telegramFrames (h .command)) payload) out _ _ 8 refl
+    lent (0xAA ∷ withChecksum body) (framed 7 (telegramFrames (h .command)) [] payload) out _ _ 8 refl
     (summed-behind 0xAA body out _ _ 6 refl
     (lent (0xAA ∷ addressBytes h) (h .command ∷ []) out _ _ 6 refl (address .address .ensures) (command .byte .ensures))
     (sum .sum .ensures))
