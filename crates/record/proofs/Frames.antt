@@ -1,5 +1,5 @@
 -- Laws of frames: what is framed is right and reads back.
-use Prim.Native.Nat.{ℕ, zero, suc, _+_, _-_, _*_, _^_, _<_, _≤_}
+use Prim.Native.Nat.{ℕ, zero, suc, _+_, _-_, _*_, _%_, _^_, _<_, _≤_}
 use native.Mathlib.Omega.{arith}
 use native.Mathlib.Numerals.{add-one}
 use native.Mathlib.Nat.{mul-zero, mul-suc, zero-add, not-suc-le-zero, le-of-suc-le-suc}
@@ -13,7 +13,7 @@ use Rattle.checksum.proofs.Laws.{checksumOf-below}
 use Rattle.basics.specs.Bytes.{AllBelow}
 use Rattle.septet.specs.Septet.{lowBits, withTopBits, unusedBits, septetWith}
 use Rattle.basics.proofs.Bytes.{getD-below, all-append, all-take, all-drop, take-below}
-use Rattle.septet.proofs.Laws.{length-lowBits, length-withTopBits, lowBits-below, withTopBits-below, unused-below, septetWith-unused, septetWith-below, withTopBits-septetWith, lowBits-withTopBits, septetWith-withTopBits}
+use Rattle.septet.proofs.Laws.{length-lowBits, length-withTopBits, lowBits-below, withTopBits-below, unused-below, septetWith-unused, septetWith-below, septetWith-none, withTopBits-septetWith, lowBits-withTopBits, septetOf-withTopBits, septetWith-withTopBits}
 use Rattle.stream.specs.Unused.{unusedFrames, countNonzero}
 use Rattle.stream.proofs.UnusedSeptets.{nonzero-none, count-first, count-short}
 use Rattle.stream.proofs.Whole.{FrameSum, frame-drop, drop-frame}
@@ -73,6 +73,12 @@ withSeptet-again width x held low =
     let sized : length (take width x) ≡ width = length-take-le width x (omega arith) in
     let all : septetWith (unusedBits width q) (withTopBits q (take width x)) ≡ q = rw sized at (septetWith-withTopBits q (take width x) low) in
     rw (lowBits-withTopBits q (take width x) low, all) (sym (take-next x width held))
+
+-- read and written, a block keeps its low bytes, and of its septet the bits in use
+pub withSeptet-rewritten : (q : ℕ) (block : List ℕ) → AllBelow 128 block → withSeptet 0 (withTopBits q block) ≡ block ++ (q % 2 ^ length block ∷ [])
+withSeptet-rewritten q block low =
+    let septet : septetWith 0 (withTopBits q block) ≡ q % 2 ^ length block = septetWith-none (withTopBits q block) ∙ septetOf-withTopBits q block low in
+    rw (lowBits-withTopBits q block low, septet)
 
 -- ── frames
 
@@ -230,3 +236,15 @@ module _ (width : ℕ) where
   unused-small zero x short low = tt
   unused-small (suc n) x short low =
       (unused-below width (getD x width 0) short (low width (first-frame n width (omega arith))), unused-small n (drop (width + 2) x) short (low-drop n x low))
+
+  -- frames read and written, one by one
+  pub rewritten-step : (n : ℕ) (x : List ℕ) → 0 < n → width ≤ length x
+      → framed width n [] (unframed width n x)
+      ≡ withChecksum (withSeptet 0 (withTopBits (getD x width 0) (take width x))) ++ framed width (n - 1) [] (unframed width (n - 1) (drop (width + 2) x))
+  unfolding framed unframed
+  rewritten-step n x pos long =
+      let e : n ≡ suc (n - 1) = omega arith in
+      let block = withTopBits (getD x width 0) (take width x) in
+      let others = unframed width (n - 1) (drop (width + 2) x) in
+      let sized : length block ≡ width = length-withTopBits (getD x width 0) (take width x) ∙ length-take-le width x long in
+      ap (λ (m : ℕ). framed width m [] (unframed width m x)) e ∙ rw (take-at block others width sized, drop-at block others width sized)

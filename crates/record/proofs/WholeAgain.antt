@@ -1,9 +1,9 @@
 -- What is whole can be written: its record is writable and, with its unused septet bits, is the bytes that it was read from.
 use Prim.Native.Nat.{ℕ, zero, suc, _+_, _*_, _/_, _%_, _^_, _<_, _≤_}
 use native.Mathlib.Omega.{arith}
-use mathlib.Core.Path.{_≡_, refl, sym, ap, ap₂, _∙_}
+use mathlib.Core.Path.{_≡_, refl, sym, ap, ap₂, subst, _∙_}
 use mathlib.Core.Bool.{false, true≢false}
-use mathlib.Core.List.{List, [], _∷_, _++_}
+use mathlib.Core.List.{List, [], _∷_, _++_, append-assoc, append-nil}
 use lib.ListN.{length, getD, take, drop, length-drop}
 use lib.Seq.{drop-cons, getD-drop, drop-drop, take-add, length-take-le}
 use Rattle.basics.specs.Bytes.{AllBelow}
@@ -18,12 +18,13 @@ use Rattle.stream.specs.Validation.{validationOf}
 use Rattle.stream.specs.declared.Kind.{Kind}
 use Rattle.stream.specs.declared.Kind.the-variants.{Packet, Datagram, Telegram, Unknown}
 use Rattle.stream.proofs.Headers.{headerLength-least, length-as}
-use Rattle.stream.proofs.Reached.{whole-clean}
+use Rattle.stream.proofs.Reached.{whole-clean, whole-counted}
+use Rattle.stream.proofs.UnusedSeptets.{unused-as, count-zeros}
 use Rattle.stream.proofs.Whole.{WholeAs, FrameSum, whole-of-clean, drop-frame}
 use Rattle.record.specs.Encode.{isUnknown, InRange, Writable}
-use Rattle.record.specs.Record.{withChecksum, withSeptet, framed, framesOf, framesIn, addressBytes, kindBytes, streamAs, streamWith, streamOf, recordAs, recordOf, commandIn, payloadIn, blockWidth, blockCount, UnusedAs, UnusedFor}
+use Rattle.record.specs.Record.{withChecksum, withSeptet, framed, unframed, framesOf, framesIn, addressBytes, kindBytes, streamAs, streamWith, streamOf, recordAs, recordOf, commandIn, payloadIn, blockWidth, blockCount, UnusedAs, UnusedFor}
 use Rattle.record.proofs.Carried.{Carried, CommandLow, carried-length, carried-writable}
-use Rattle.record.proofs.Frames.{take-next, withSeptet-again, unframed-length, unframed-below, framed-unframed, unused-length, unused-small}
+use Rattle.record.proofs.Frames.{take-next, withSeptet-again, withSeptet-rewritten, unframed-length, unframed-below, framed-unframed, unused-length, unused-small}
 
 -- ── the payload
 
@@ -269,3 +270,48 @@ module _ (s : List ℕ) (w : validationOf s .verdict ≡ 0) where
   pub whole-unused : UnusedFor (unusedIn (kind s) s) (recordOf s)
   unfolding recordOf
   whole-unused = let parts = whole-parts s w in unused-fits (kind s) s (parts .whole) (parts .held)
+
+-- ── written without its unused septet bits
+
+packet-rewritten : (s : List ℕ) → WholeAs Packet s → lengthAs Packet s ≤ length s
+    → streamAs Packet [] (recordAs Packet s) ≡ take 10 s ++ framed 4 (getD s 8 0) [] (unframed 4 (getD s 8 0) (drop 10 s))
+unfolding streamAs headerLength frameWidth kindBytes payloadIn frameCount
+packet-rewritten s whole held =
+    ap₂ _++_ (header-again Packet s whole held) (ap (λ (f : ℕ). framed 4 f [] (payloadIn Packet s)) (counted Packet s held))
+
+datagram-rewritten : (s : List ℕ) → WholeAs Datagram s → lengthAs Datagram s ≤ length s
+    → streamAs Datagram [] (recordAs Datagram s) ≡ 0xAA ∷ withChecksum (take 13 (drop 1 s) ++ (getD s 14 0 % 64 ∷ []))
+unfolding streamAs headerLength frameWidth framesOf framed kindBytes commandIn payloadIn frameCount
+datagram-rewritten s whole held =
+    let word = word-again (getD s 6 0) (getD s 7 0) (header-low Datagram s whole 6 (omega arith) (omega arith)) in
+    let low : AllBelow 128 (take 6 (drop 8 s)) =
+    take-below 128 6 (drop 8 s) (λ i h. rw (getD-drop 8 s i 0) (header-low Datagram s whole (8 + i) (omega arith) (omega arith))) in
+    let six : length (take 6 (drop 8 s)) ≡ 6 = length-take-le 6 (drop 8 s) (omega (arith, length-drop 8 s)) in
+    let block : withSeptet 0 (withTopBits (getD s 14 0) (take 6 (drop 8 s))) ≡ take 6 (drop 8 s) ++ (getD s 14 0 % 64 ∷ []) =
+    rw six at (withSeptet-rewritten (getD s 14 0) (take 6 (drop 8 s)) low) in
+    let before : addressBytes (recordAs Datagram s .header) ++ (wordBytes (getD s 6 0 + 256 * getD s 7 0) ++ take 6 (drop 8 s)) ≡ take 13 (drop 1 s) =
+    ap₂ _++_ (address-again Datagram s whole ∙ sym (cells-take s 1 5 (omega arith))) (ap (λ (l : List ℕ). l ++ take 6 (drop 8 s)) (word ∙ sym (cells-take s 6 2 (omega arith))) ∙ join s 6 2 6)
+    ∙ join s 1 5 8 in
+    rw (append-nil, block, ← before)
+
+-- the parts of a whole stretch of a kind
+parts-as : (s : List ℕ) → validationOf s .verdict ≡ 0 → (K : Kind) → kind s ≡ K → WholeAs K s × (lengthAs K s ≤ length s)
+parts-as s w K e = subst (λ (K : Kind). WholeAs K s × (lengthAs K s ≤ length s)) e (whole-parts s w .whole, whole-parts s w .held)
+
+module _ (s : List ℕ) (w : validationOf s .verdict ≡ 0) where
+  stream-as : (K : Kind) → kind s ≡ K → streamOf (recordOf s) ≡ streamAs K [] (recordAs K s)
+  unfolding recordOf streamOf streamWith
+  stream-as K e = ap (λ (K : Kind). streamAs K [] (recordAs K s)) e
+
+  pub packet-again : kind s ≡ Packet → streamOf (recordOf s) ≡ take 10 s ++ framed 4 (getD s 8 0) [] (unframed 4 (getD s 8 0) (drop 10 s))
+  packet-again e = let (whole, held) = parts-as s w Packet e in stream-as Packet e ∙ packet-rewritten s whole held
+
+  pub datagram-again : kind s ≡ Datagram → streamOf (recordOf s) ≡ 0xAA ∷ withChecksum (take 13 (drop 1 s) ++ (getD s 14 0 % 64 ∷ []))
+  datagram-again e = let (whole, held) = parts-as s w Datagram e in stream-as Datagram e ∙ datagram-rewritten s whole held
+
+  -- the septet of a telegram's frame has no unused bit
+  pub telegram-unused : kind s ≡ Telegram → validationOf s .«unused_septets» ≡ 0
+  unfolding blockWidth
+  telegram-unused e =
+      let (whole, held) = parts-as s w Telegram e in
+      whole-counted s w ∙ unused-as s Telegram e ∙ count-zeros (unusedIn Telegram s) (unused-fits Telegram s whole held .small)

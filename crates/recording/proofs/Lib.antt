@@ -5,4 +5,5 @@ pub mod Runs
 pub mod Reading
 pub mod Searching
 pub mod Decoding
+pub mod Clearing
 pub mod Rewriting

@@ -3,14 +3,16 @@ use Prim.Native.Nat.{ℕ, _+_, _-_, _≤_}
 use native.Mathlib.Omega.{arith}
 use mathlib.Core.Path.{_≡_, sym, ap, _∙_}
 use mathlib.Core.List.{List, [], _++_, append-assoc}
-use lib.ListN.{length, take, drop, length-append}
-use lib.Seq.{take-length}
-use Rattle.basics.specs.Bytes.{over}
+use lib.ListN.{length, take, drop, length-append, length-drop, take-append-drop}
+use lib.Seq.{length-take-le}
 use Rattle.stream.specs.Validation.{validationOf}
+use Rattle.stream.specs.declared.Validation.{Validation}
 use Rattle.record.specs.Record.{recordOf, streamOf}
-use Rattle.record.proofs.WholeAgain.{whole-again, whole-length}
+use Rattle.record.proofs.ReadBack.{whole-more, whole-alone}
+use Rattle.record.proofs.WholeAgain.{whole-length}
 use Rattle.recording.specs.Normalize.{streams, normalized}
 use Rattle.recording.specs.Recording.{Delivery, deliveriesAfter, contentsOf}
+use Rattle.recording.specs.Stage.{OneStream}
 use Rattle.recording.specs.declared.search.Span.{Span}
 use Rattle.recording.proofs.Searching.{FoundAt}
 
@@ -34,15 +36,38 @@ module _ (s : List ℕ) (start : ℕ) (span : Span) (found : FoundAt s start spa
   abbrev stretch : List ℕ
   stretch = take (span .place + span .length - span .place) (drop (span .place) s)
 
-  -- they are those that its record is written as
-  pub found-stream : stretch ≡ streamOf (recordOf (drop (span .place) s))
-  found-stream =
-      let size : span .place + span .length - span .place ≡ validationOf (drop (span .place) s) .offset = omega (arith, found .whole-at .sized) in
-      ap (λ (n : ℕ). take n (drop (span .place) s)) size ∙ sym (whole-again (drop (span .place) s) (found .whole-at .whole))
+  pub stretch-length : length stretch ≡ span .length
+  stretch-length =
+      length-take-le (span .place + span .length - span .place) (drop (span .place) s) (omega (arith, length-drop (span .place) s, found .inside))
+      ∙ omega arith
 
-  -- a copy of them, in the words of `bytes::copy`
-  pub found-copied : (out new : List ℕ) → new ≡ take (length stretch) stretch ++ drop (length stretch) out → new ≡ over (streamOf (recordOf (drop (span .place) s))) out
-  found-copied out new e = e ∙ rw take-length (ap (λ (l : List ℕ). over l out) found-stream)
+  -- they are that stream and no more
+  stretch-more : stretch ++ drop (span .length) (drop (span .place) s) ≡ drop (span .place) s
+  stretch-more =
+      let size : span .place + span .length - span .place ≡ span .length = omega arith in
+      ap (λ (n : ℕ). take n (drop (span .place) s) ++ drop (span .length) (drop (span .place) s)) size ∙ take-append-drop (span .length) (drop (span .place) s)
+
+  stretch-whole : validationOf stretch .verdict ≡ 0
+  stretch-whole =
+      whole-alone stretch (drop (span .length) (drop (span .place) s)) (rw stretch-more (found .whole-at .whole))
+      (rw stretch-more (sym (found .whole-at .sized) ∙ sym stretch-length))
+
+  stretch-said : (validationOf stretch ≡ validationOf (drop (span .place) s)) × (recordOf stretch ≡ recordOf (drop (span .place) s))
+  stretch-said =
+      let (said, read) = whole-more stretch (drop (span .length) (drop (span .place) s)) stretch-whole in
+      (sym said ∙ ap validationOf stretch-more, sym read ∙ ap recordOf stretch-more)
+
+  pub stretch-record : recordOf stretch ≡ recordOf (drop (span .place) s)
+  stretch-record = stretch-said .1
+
+  pub stretch-one : (room : ℕ) → span .length ≤ room → OneStream stretch (span .«unused_septets») room
+  stretch-one room fits =
+      record {
+        whole = stretch-whole;
+        sized = ap (λ (v : Validation). v .offset) (stretch-said .0) ∙ sym (found .whole-at .sized) ∙ sym stretch-length;
+        counted = found .whole-at .counted ∙ sym (ap (λ (v : Validation). v .«unused_septets») (stretch-said .0));
+        held = omega (arith, stretch-length);
+      }
 
   pub found-counts : length (remaining s start) ≡ span .length + length (remaining s (span .place + span .length))
   found-counts = ap length remaining-found ∙ rw (length-append, found-length)

@@ -8,6 +8,7 @@ ghost use Rattle.recording.specs.Next.{nextOf, payloadAfter};
 ghost use Rattle.recording.specs.Normalize.{normalizingOf, outputAfter};
 ghost use Rattle.recording.specs.Stage.{WholeAt, deliveredOf};
 
+mod clear;
 mod read;
 mod rewrite;
 mod search;
@@ -85,6 +86,7 @@ pub fn decode(input: &[u8], out: &mut [u8]) -> Found
         Span {
             place: 0,
             length: validation.offset,
+            unused_septets: validation.unused_septets,
         },
         out,
     )

@@ -3,7 +3,10 @@ ghost use mathlib.Core.Path.{_≡_};
 ghost use Prim.Native.Nat.{_≤_};
 ghost use lib.ListN.{length};
 ghost use Rattle.basics.specs.Bytes.{over};
+ghost use Rattle.record.specs.Record.{recordOf, streamOf};
 ghost use Rattle.recording.specs.Normalize.{normalized, normalizingOf, outputAfter};
+ghost use Rattle.recording.specs.Stage.{OneStream};
+use crate::clear;
 use crate::search::Search;
 use crate::search::first_whole;
 use basics::Written;
@@ -25,8 +28,19 @@ fn measure(input: &[u8]) -> usize
     }
 }
 
+// Writes the record of one whole stream. Its bytes are what writing gives, exactly if no unused septet bit is set in them (law
+// `rewritten-same`): so they are copied, and such bits are cleared.
+fn one(stream: &[u8], unused: usize, out: &mut [u8])
+    requires { ⌜ OneStream (now stream) unused (length (now out)) ⌝ }
+    ensures { λ r. ⌜ now (out .exit) ≡ over (streamOf (recordOf (now (stream .entry)))) (now (out .entry)) ⌝ }
+{
+    bytes::copy(stream, out);
+    if unused != 0 {
+        clear::stream(out);
+    }
+}
+
 // Writes the records one behind the other, each to the rest of the output, and returns how many bytes they take.
-// A whole stream is just what writing its record gives (law `whole-again`), so its bytes are copied.
 fn all(input: &[u8], out: &mut [u8]) -> usize
     requires { ⌜ length (normalized (now input)) ≤ length (now out) ⌝ }
     ensures { λ r. ⌜ r ≡ length (normalized (now (input .entry))) ⌝ }
@@ -40,7 +54,7 @@ fn all(input: &[u8], out: &mut [u8]) -> usize
                 let place = span.place;
                 let length = span.length;
                 at = place + length;
-                bytes::copy(&input[place..at], &mut out[to..]);
+                one(&input[place..at], span.unused_septets, &mut out[to..]);
                 to += length;
             }
             Search::Nothing => break to,

@@ -9,6 +9,7 @@ use mathlib.Core.List.{List, [], _∷_}
 use borrow.Author.Tests.{eq-eqb, ne-eqb}
 use lib.ListN.{length, getD, drop}
 use lib.Seq.{getD-drop, drop-drop}
+use Rattle.basics.specs.Bytes.{AllBelow}
 use Rattle.basics.specs.Choice.{choose}
 use Rattle.septet.specs.Septet.{unusedBits}
 use Rattle.stream.specs.Layout.{kind, headerLength, frameWidth, frameCount, streamLength}
@@ -43,6 +44,11 @@ pub count-short : (l : List ℕ) → length l ≡ 0 → countNonzero l ≡ 0
 unfolding countNonzero
 count-short [] e = refl
 count-short (n ∷ l) e = absurd (omega arith)
+
+pub count-zeros : (l : List ℕ) → AllBelow 1 l → countNonzero l ≡ 0
+unfolding countNonzero
+count-zeros [] all = refl
+count-zeros (n ∷ l) all = omega (arith, nonzero-zero n (omega (arith, all .0)), count-zeros l (all .1))
 
 -- ── frame by frame
 

@@ -9,7 +9,7 @@ use Rattle.basics.specs.Bytes.{over}
 use Rattle.basics.proofs.Over.{part, lent}
 use Rattle.record.specs.Record.{recordOf, streamOf}
 use Rattle.recording.specs.Normalize.{normalized}
-use Rattle.recording.proofs.Rewriting.{remaining, remaining-none, found-length, found-fits, found-next, found-stream, found-copied}
+use Rattle.recording.proofs.Rewriting.{remaining, remaining-none, found-length, found-fits, found-next, stretch-record, stretch-one}
 use Rattle.recording.proofs.Searching.{search-found, search-none}
 use Rattle.recording.proofs.rewrite.all.Statement.{statement}
 use Rattle.recording.proofs.rewrite.all.Tie as tie
@@ -42,43 +42,42 @@ add-at c =
     let found = search-found s (loop .at) _ _ (c .before .before .before .first-whole .ensures) (c .before .span .given .1) in
     omega (arith, found .inside)
 
-sub-copy : tie.Need-sub-copy Inv-loop μ-loop
-sub-copy c = search needs
+sub-one : tie.Need-sub-one Inv-loop μ-loop
+sub-one c = search needs
 
-part-copy-start : tie.Need-part-copy-start Inv-loop μ-loop
-part-copy-start c = search needs
+part-one-start : tie.Need-part-one-start Inv-loop μ-loop
+part-one-start c = search needs
 
-part-copy-end : tie.Need-part-copy-end Inv-loop μ-loop
-part-copy-end c =
+part-one-end : tie.Need-part-one-end Inv-loop μ-loop
+part-one-end c =
     let s = c .before .before .before .before .before .before .before .args .input .now in
     let loop = c .before .before .before .before .loop in
     let found = search-found s (loop .at) _ _ (c .before .before .before .first-whole .ensures) (c .before .span .given .1) in
     omega (arith, found .inside)
 
-sub-copy-2 : tie.Need-sub-copy-2 Inv-loop μ-loop
-sub-copy-2 c =
+sub-one-2 : tie.Need-sub-one-2 Inv-loop μ-loop
+sub-one-2 c =
     let s = c .before .before .before .before .before .before .before .before .args .input .now in
     let loop = c .before .before .before .before .before .loop in
     let found = search-found s (loop .at) _ _ (c .before .before .before .before .first-whole .ensures) (c .before .before .span .given .1) in
     omega (arith, found-fits s (loop .at) _ found (loop .inv .0) (loop .inv .3))
 
-part-copy-start-2 : tie.Need-part-copy-start-2 Inv-loop μ-loop
-part-copy-start-2 c =
+part-one-start-2 : tie.Need-part-one-start-2 Inv-loop μ-loop
+part-one-start-2 c =
     let s = c .before .before .before .before .before .before .before .before .args .input .now in
     let loop = c .before .before .before .before .before .loop in
     let found = search-found s (loop .at) _ _ (c .before .before .before .before .first-whole .ensures) (c .before .before .span .given .1) in
     omega (arith, found-fits s (loop .at) _ found (loop .inv .0) (loop .inv .3))
 
-part-copy-end-2 : tie.Need-part-copy-end-2 Inv-loop μ-loop
-part-copy-end-2 c = search needs
+part-one-end-2 : tie.Need-part-one-end-2 Inv-loop μ-loop
+part-one-end-2 c = search needs
 
-copy-requires : tie.Need-copy-requires Inv-loop μ-loop
-copy-requires c κs =
+one-requires : tie.Need-one-requires Inv-loop μ-loop
+one-requires c κs =
     let s = c .before .before .before .before .before .before .before .before .before .args .input .now in
     let loop = c .before .before .before .before .before .before .loop in
     let found = search-found s (loop .at) _ _ (c .before .before .before .before .before .first-whole .ensures) (c .before .before .before .span .given .1) in
-    let size = ap length (found-stream s (loop .at) _ found) ∙ found-length s (loop .at) _ found in
-    simp (part, length-drop) (omega (arith, size, found-fits s (loop .at) _ found (loop .inv .0) (loop .inv .3)))
+    stretch-one s (loop .at) _ found _ (rw (part, length-drop) (omega (arith, found-fits s (loop .at) _ found (loop .inv .0) (loop .inv .3))))
 
 add-to : tie.Need-add-to Inv-loop μ-loop
 add-to c =
@@ -100,11 +99,11 @@ loop-again c =
     let loop = c .before .before .before .before .before .before .before .before .before .loop in
     let found = search-found s (loop .at) _ _ (c .before .before .before .before .before .before .before .before .first-whole .ensures) (c .before .before .before .before .before .before .span .given .1) in
     let stream = streamOf (recordOf (drop (c .before .before .before .before .before .before .span .given .0 .0 .place) s)) in
-    let copy = c .before .before .copy in
+    let one = c .before .before .one in
     let size = found-length s (loop .at) _ found in (
       loop .inv .0 ++ stream,
       rw (length-append, size, loop .inv .1),
-      lent (loop .inv .0) stream (c .before .before .before .before .before .before .before .before .before .before .before .before .args .out .now) (loop .out) (copy .last .1 .0) (loop .to) (loop .inv .1) (loop .inv .2) (found-copied s (loop .at) _ found _ _ (copy .ensures .1)),
+      lent (loop .inv .0) stream (c .before .before .before .before .before .before .before .before .before .before .before .before .args .out .now) (loop .out) (one .last .1 .1 .0) (loop .to) (loop .inv .1) (loop .inv .2) (rw (stretch-record s (loop .at) _ found) at (one .ensures)),
       found-next s (loop .at) _ found (loop .inv .0) (loop .inv .3),
       found .inside,
       omega arith,
@@ -134,13 +133,13 @@ all-spec =
     first-whole-requires
     enum-known-span
     add-at
-    sub-copy
-    part-copy-start
-    part-copy-end
-    sub-copy-2
-    part-copy-start-2
-    part-copy-end-2
-    copy-requires
+    sub-one
+    part-one-start
+    part-one-end
+    sub-one-2
+    part-one-start-2
+    part-one-end-2
+    one-requires
     add-to
     loop-less
     loop-again
