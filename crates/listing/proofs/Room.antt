@@ -3,7 +3,7 @@ use Prim.Native.Nat.{ℕ, _+_, _*_, _≤_}
 use native.Mathlib.Omega.{arith}
 use mathlib.Core.Path.{_≡_, refl, ap}
 use mathlib.Core.Bool.{true≢false}
-use mathlib.Core.List.{List}
+use mathlib.Core.List.{List, []}
 use borrow.Author.Tests.{lt-ltb, le-ltb}
 use lib.ListN.{length, take, drop, length-append}
 use lib.Seq.{take-append-seam}
@@ -13,7 +13,7 @@ use Rattle.stream.specs.Validation.{validationOf}
 use Rattle.stream.specs.declared.Kind.{Kind}
 use Rattle.stream.specs.declared.Kind.the-variants.{Packet, Datagram, Telegram, Unknown}
 use Rattle.record.specs.Encode.{Writable}
-use Rattle.record.specs.Record.{Record, framesOf, framesIn, recordOf, streamAs, streamOf}
+use Rattle.record.specs.Record.{Record, framesOf, framesIn, recordOf, streamAs, streamWith, streamOf}
 use Rattle.record.proofs.Carried.{Carried, carried-length, kindIn, writable-carried}
 use Rattle.record.proofs.WholeAgain.{whole-writable}
 use Rattle.recording.specs.Normalize.{streams}
@@ -36,11 +36,11 @@ room-as Telegram r carried n e =
 room-as Unknown r carried n e = absurd (true≢false (carried .known))
 
 pub line-room : (r : Record) → Writable r → 4 * length (lineOf r) ≤ 9 * length (streamOf r)
-unfolding streamOf
+unfolding streamOf streamWith
 line-room r writable =
     let K = kindIn r in
     let carried = writable-carried r writable in
-    omega (arith, room-as K r carried (length (streamAs K r)) (carried-length K r carried), length-line K r refl, length-head K (r .header))
+    omega (arith, room-as K r carried (length (streamAs K [] r)) (carried-length K [] r carried), length-line K r refl, length-head K (r .header))
 
 pub listing-room : (s : List ℕ) → 4 * length (listingOf s) ≤ 9 * length s
 unfolding linesOf streams

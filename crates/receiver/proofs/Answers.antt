@@ -2,7 +2,7 @@
 use Prim.Native.Nat.{ℕ, _<_, _≤_}
 use native.Mathlib.Omega.{arith}
 use native.Mathlib.Decide.{decLt, ℕ-discrete}
-use mathlib.Core.Path.{_≡_, refl, sym, ap, ap₂, _∙_}
+use mathlib.Core.Path.{_≡_, refl, sym, ap, _∙_}
 use mathlib.Core.Bool.{Bool, true, false, true≢false, false≢true}
 use mathlib.Core.Logic.{_↔_, dite}
 use mathlib.Core.List.{List, [], _∷_, _++_, append-nil}
@@ -114,7 +114,8 @@ pub record DeliversWhole (receiver : Receiver) (memory chunk : List ℕ) (answer
   pub before : List ℕ
   pub stream : List ℕ
   pub bytes : heldIn receiver memory ++ take (answer .used) chunk ≡ before ++ stream
-  pub whole : validationOf stream ≡ record { verdict = 0; offset = length stream }
+  pub whole : validationOf stream .verdict ≡ 0
+  pub ends : validationOf stream .offset ≡ length stream
   pub sized : answer .length ≡ length stream
   pub header : answer .header ≡ recordOf stream .header
   pub payload : take (answer .«payload_length») out' ≡ recordOf stream .payload
@@ -176,7 +177,8 @@ module _ {receiver : Receiver} {memory chunk out : List ℕ} {answer : Received}
         before = last .before;
         stream = s;
         bytes = last .is ∙ ap (λ (l : List ℕ). last .before ++ (s ++ l)) (brings .forgets w) ∙ ap (λ (l : List ℕ). last .before ++ l) (append-nil s);
-        whole = ap₂ (λ (v k : ℕ). record { verdict = v; offset = k }) w sized;
+        whole = w;
+        ends = sized;
         sized = sized;
         header = refl;
         payload = rw (output-is, one) (take-append-seam (recordOf s .payload) (drop (length (recordOf s .payload)) out));

@@ -69,7 +69,7 @@ boolTold true = 1
 boolTold false = 0
 
 abbrev validationTold : Validation → List ℕ
-validationTold a = a .verdict ∷ a .offset ∷ []
+validationTold a = a .verdict ∷ a .offset ∷ a .«unused_septets» ∷ []
 
 abbrev writtenTold : Written → List ℕ
 writtenTold a = a .number ∷ a .length ∷ []

@@ -11,9 +11,10 @@ use Rattle.checksum.specs.Checksum.{checksumFrom}
 use Rattle.septet.specs.Septet.{septetOf, lowBits, withTopBits}
 use Rattle.septet.specs.Answer.{anyHigh}
 use Rattle.stream.specs.Layout.{kindOf, headerLength, frameWidth, frameCount, streamLength, payloadLength}
+use Rattle.stream.specs.Unused.{unusedFrames, unusedIn, countNonzero, unusedSeptets}
 use Rattle.stream.specs.Validation.{frameRule, headerRule, ruleAt, breach, faultAt, validationFrom}
-use Rattle.stream.specs.declared.Verdict.the-variants.{Whole, NoSync, HighByte, UnknownVersion, HeaderChecksum, UnusedSeptetBit, FrameChecksum, Ended}
-use Rattle.record.specs.Record.{recordOf, unframed, commandIn, payloadIn, framed, framesOf, kindBytes, streamAs, streamOf}
+use Rattle.stream.specs.declared.Verdict.the-variants.{Whole, NoSync, HighByte, UnknownVersion, HeaderChecksum, FrameChecksum, Ended}
+use Rattle.record.specs.Record.{recordOf, unframed, commandIn, payloadIn, framed, framesOf, kindBytes, streamAs, streamWith, streamOf}
 use Rattle.record.specs.Encode.{unwritable}
 use Rattle.record.specs.Encode as Encodings
 use Rattle.recording.specs.Recording.{deliveriesFrom}
@@ -27,7 +28,7 @@ use Rattle.sections.specs.Section.{cut, someShort}
 use Rattle.sections.specs.Element.{elementSize}
 use Rattle.sections.specs.Answer.{notBlock}
 use Rattle.samples.proofs.Questions.{Question, checksum, extract, inject, validate, read, carry, encode, value, next, receive, normalize, sections, section, elements, element, temperature, verdict, untouched, answer}
-use Rattle.samples.proofs.Samples.{bytes, recorded, p1, d1, t1, t2, twoFrames, sixTopBits, threeFrames, threeFramesPayload, damaged, packet, datagram, telegram, blockHeader, example, eachType}
+use Rattle.samples.proofs.Samples.{bytes, recorded, p1, d1, t1, t2, p1Unused, d1Unused, threeUnused, threeClear, t2Septet, twoFrames, sixTopBits, threeFrames, threeFramesPayload, damaged, packet, datagram, telegram, blockHeader, example, eachType}
 
 -- a question and the answer that the papers give
 abbrev Row : Type 0
@@ -45,19 +46,19 @@ noRecord number room = number ∷ (replicate 8 0 ++ untouched room)
 
 abbrev starred : List Row
 starred =
-    (validate p1, 0 ∷ 16 ∷ [])
-    ∷ (validate d1, 0 ∷ 16 ∷ [])
-    ∷ (validate (t1 0x76), 0 ∷ 8 ∷ [])
-    ∷ (validate (t1 0x77), 4 ∷ 7 ∷ [])
-    ∷ (validate t2, 0 ∷ 17 ∷ [])
+    (validate p1, 0 ∷ 16 ∷ 0 ∷ [])
+    ∷ (validate d1, 0 ∷ 16 ∷ 0 ∷ [])
+    ∷ (validate (t1 0x76), 0 ∷ 8 ∷ 0 ∷ [])
+    ∷ (validate (t1 0x77), 4 ∷ 7 ∷ 0 ∷ [])
+    ∷ (validate t2, 0 ∷ 17 ∷ 0 ∷ [])
     ∷ (read t2, 0x30 ∷ 0x7731 ∷ 0x2010 ∷ 0x23 ∷ bytes 7 0x38900DB6_C62300)
     ∷ (extract (bytes 7 0xE803F401_000000) 4, 0 ∷ 4 ∷ 0x05 ∷ bytes 7 0x68037401_000000)
     ∷ (checksum (bytes 5 0x68037401_05), 0x1A ∷ [])
-    ∷ (validate [], 7 ∷ 0 ∷ [])
+    ∷ (validate [], 7 ∷ 0 ∷ 0 ∷ [])
     ∷ (next [] 0 2, noRecord 0 2)
     ∷ (next [] 1 2, noRecord 6 2)
-    ∷ (validate (bytes 16 0xAA114410_66100002_01210704_0F001055), 5 ∷ 14 ∷ [])
-    ∷ (validate (0xAA ∷ p1), 2 ∷ 1 ∷ [])
+    ∷ (validate p1Unused, 0 ∷ 16 ∷ 1 ∷ [])
+    ∷ (validate (0xAA ∷ p1), 2 ∷ 1 ∷ 0 ∷ [])
     ∷ (next (0xAA ∷ p1) 0 5, 0 ∷ 1 ∷ 1 ∷ 16 ∷ 0x10 ∷ 0x4411 ∷ 0x6610 ∷ 0x0200 ∷ 4 ∷ bytes 5 0x07040F00_EE)
     ∷ (encode (packet 0x0080 0x6610 0x0200 4) 16, refused 2 16)
     ∷ []
@@ -77,42 +78,55 @@ septets =
     ∷ (inject (replicate 7 0) 8 0, noSeptets)
     ∷ (inject (bytes 7 0x68037480_000000) 4 0x05, noSeptets)
     ∷ (inject (replicate 7 0) 7 0x80, noSeptets)
-    ∷ (inject (replicate 7 0) 4 0x10, noSeptets)
+    ∷ (inject (bytes 7 0x68037401_000000) 4 0x75, 0 ∷ 4 ∷ 0 ∷ bytes 7 0xE803F401_000000)
+    ∷ (inject (replicate 7 0) 6 0x40, 0 ∷ 6 ∷ replicate 8 0)
+    ∷ (inject (replicate 7 0x7F) 0 0x7F, replicate 10 0)
+    ∷ (inject (replicate 7 0) 4 0x80, noSeptets)
     ∷ []
 
 abbrev verdicts : List Row
 verdicts =
-    (validate (twoFrames ++ (0xFF ∷ [])), 0 ∷ 22 ∷ [])
-    ∷ (validate sixTopBits, 0 ∷ 16 ∷ [])
-    ∷ (validate threeFrames, 0 ∷ 35 ∷ [])
-    ∷ (validate (bytes 8 0xAA102031_77301463), 0 ∷ 8 ∷ [])
-    ∷ (validate (0xAB ∷ []), 1 ∷ 0 ∷ [])
-    ∷ (validate (bytes 8 0x2A102031_77300176), 1 ∷ 0 ∷ [])
-    ∷ (validate (0xAA ∷ 0x7F ∷ 0x80 ∷ []), 2 ∷ 2 ∷ [])
-    ∷ (validate (bytes 6 0xAA102031_7790), 2 ∷ 5 ∷ [])
-    ∷ (validate (bytes 13 0xAA114410_66100002_01210704_80), 2 ∷ 12 ∷ [])
-    ∷ (validate (t1 0xF6), 2 ∷ 7 ∷ [])
-    ∷ (validate (bytes 15 0xAA114410_66100002_01210704_0F0080), 2 ∷ 14 ∷ [])
-    ∷ (validate (bytes 16 0xAA114410_66100002_01210704_0F0000E5), 2 ∷ 15 ∷ [])
-    ∷ (validate (bytes 16 0xAA200011_19200001_00000000_00008014), 2 ∷ 14 ∷ [])
-    ∷ (validate (bytes 8 0xAA102031_77110176), 3 ∷ 5 ∷ [])
-    ∷ (validate (bytes 10 0xAA114410_66100002_0122), 4 ∷ 9 ∷ [])
-    ∷ (validate (bytes 16 0xAA200011_19200001_00000000_00000015), 4 ∷ 15 ∷ [])
-    ∷ (validate (bytes 16 0xAA200011_19200001_00000000_00004054), 5 ∷ 14 ∷ [])
-    ∷ (validate (take 20 twoFrames ++ (0x13 ∷ [])), 5 ∷ 20 ∷ [])
-    ∷ (validate (take 21 twoFrames ++ (0x6D ∷ [])), 6 ∷ 21 ∷ [])
-    ∷ (validate (take 34 threeFrames ++ (0x5E ∷ [])), 6 ∷ 34 ∷ [])
-    ∷ (validate (take 5 p1), 7 ∷ 5 ∷ [])
-    ∷ (validate (take 6 p1), 7 ∷ 6 ∷ [])
-    ∷ (validate (take 15 p1), 7 ∷ 15 ∷ [])
-    ∷ (validate (take 15 d1), 7 ∷ 15 ∷ [])
-    ∷ (validate (take 16 t2), 7 ∷ 16 ∷ [])
+    (validate (twoFrames ++ (0xFF ∷ [])), 0 ∷ 22 ∷ 0 ∷ [])
+    ∷ (validate sixTopBits, 0 ∷ 16 ∷ 0 ∷ [])
+    ∷ (validate threeFrames, 0 ∷ 35 ∷ 0 ∷ [])
+    ∷ (validate (bytes 8 0xAA102031_77301463), 0 ∷ 8 ∷ 0 ∷ [])
+    ∷ (validate (0xAB ∷ []), 1 ∷ 0 ∷ 0 ∷ [])
+    ∷ (validate (bytes 8 0x2A102031_77300176), 1 ∷ 0 ∷ 0 ∷ [])
+    ∷ (validate (0xAA ∷ 0x7F ∷ 0x80 ∷ []), 2 ∷ 2 ∷ 0 ∷ [])
+    ∷ (validate (bytes 6 0xAA102031_7790), 2 ∷ 5 ∷ 0 ∷ [])
+    ∷ (validate (bytes 13 0xAA114410_66100002_01210704_80), 2 ∷ 12 ∷ 0 ∷ [])
+    ∷ (validate (t1 0xF6), 2 ∷ 7 ∷ 0 ∷ [])
+    ∷ (validate (bytes 15 0xAA114410_66100002_01210704_0F0080), 2 ∷ 14 ∷ 0 ∷ [])
+    ∷ (validate (bytes 16 0xAA114410_66100002_01210704_0F0000E5), 2 ∷ 15 ∷ 0 ∷ [])
+    ∷ (validate (bytes 16 0xAA200011_19200001_00000000_00008014), 2 ∷ 14 ∷ 0 ∷ [])
+    ∷ (validate (bytes 8 0xAA102031_77110176), 3 ∷ 5 ∷ 0 ∷ [])
+    ∷ (validate (bytes 10 0xAA114410_66100002_0122), 4 ∷ 9 ∷ 0 ∷ [])
+    ∷ (validate (bytes 16 0xAA200011_19200001_00000000_00000015), 4 ∷ 15 ∷ 0 ∷ [])
+    ∷ (validate d1Unused, 0 ∷ 16 ∷ 1 ∷ [])
+    ∷ (validate threeUnused, 0 ∷ 28 ∷ 2 ∷ [])
+    ∷ (validate threeClear, 0 ∷ 28 ∷ 0 ∷ [])
+    ∷ (validate t2Septet, 0 ∷ 17 ∷ 0 ∷ [])
+    ∷ (validate (take 20 twoFrames ++ (0x23 ∷ 0x4C ∷ [])), 0 ∷ 22 ∷ 1 ∷ [])
+    ∷ (validate (take 15 p1Unused ++ (0x65 ∷ [])), 6 ∷ 15 ∷ 0 ∷ [])
+    ∷ (validate (take 15 d1Unused ++ (0x14 ∷ [])), 4 ∷ 15 ∷ 0 ∷ [])
+    ∷ (validate (take 27 threeUnused ++ (0x6C ∷ [])), 6 ∷ 27 ∷ 0 ∷ [])
+    ∷ (validate (take 27 threeUnused), 7 ∷ 27 ∷ 0 ∷ [])
+    ∷ (validate (take 21 twoFrames ++ (0x6D ∷ [])), 6 ∷ 21 ∷ 0 ∷ [])
+    ∷ (validate (take 34 threeFrames ++ (0x5E ∷ [])), 6 ∷ 34 ∷ 0 ∷ [])
+    ∷ (validate (take 5 p1), 7 ∷ 5 ∷ 0 ∷ [])
+    ∷ (validate (take 6 p1), 7 ∷ 6 ∷ 0 ∷ [])
+    ∷ (validate (take 15 p1), 7 ∷ 15 ∷ 0 ∷ [])
+    ∷ (validate (take 15 d1), 7 ∷ 15 ∷ 0 ∷ [])
+    ∷ (validate (take 16 t2), 7 ∷ 16 ∷ 0 ∷ [])
     ∷ []
 
 abbrev records : List Row
 records =
     (read twoFrames, 0x10 ∷ 0x4E21 ∷ 0x3B72 ∷ 0x1203 ∷ bytes 8 0xE803F401_80FF7F12)
     ∷ (read sixTopBits, 0x20 ∷ 0x1122 ∷ 0x3344 ∷ 0x0556 ∷ bytes 6 0x8192A3B4_C5D6)
+    ∷ (read threeUnused, 0x10 ∷ 0x4411 ∷ 0x6610 ∷ 0x0200 ∷ bytes 12 0xE803F401_07040F00_80FF7F12)
+    ∷ (read d1Unused, 0x20 ∷ 0x0020 ∷ 0x1911 ∷ 0x0100 ∷ replicate 6 0)
+    ∷ (read t2Septet, 0x30 ∷ 0x7731 ∷ 0x2010 ∷ 0x23 ∷ bytes 7 0xB8908DB6_C6A380)
     ∷ (read threeFrames, 0x31 ∷ 0x7731 ∷ 0x2010 ∷ 0x69 ∷ threeFramesPayload)
     ∷ (encode (recorded 0x10 0x4E21 0x3B72 0x1203 (bytes 8 0xE803F401_80FF7F12)) 23, 0 ∷ 22 ∷ (twoFrames ++ (0xEE ∷ [])))
     ∷ (encode (recorded 0x20 0x1122 0x3344 0x0556 (bytes 6 0x8192A3B4_C5D6)) 16, 0 ∷ 16 ∷ sixTopBits)
@@ -158,6 +172,10 @@ recordings =
     ∷ (normalize damaged 33, 0 ∷ 33 ∷ (p1 ++ t2))
     ∷ (normalize damaged 32, refused 5 32)
     ∷ (normalize [] 2, 0 ∷ 0 ∷ untouched 2)
+    ∷ (normalize p1Unused 16, 0 ∷ 16 ∷ p1)
+    ∷ (normalize d1Unused 16, 0 ∷ 16 ∷ d1)
+    ∷ (normalize (threeUnused ++ t2Septet) 46, 0 ∷ 45 ∷ (threeClear ++ (t2Septet ++ (0xEE ∷ []))))
+    ∷ (normalize threeUnused 27, refused 5 27)
     ∷ []
 
 -- nothing received: the number, how many bytes were used, and how many are held
@@ -231,7 +249,7 @@ blockSections =
     ∷ (temperature (0xFF ∷ 0x7F ∷ []), 0 ∷ 32767 ∷ [])
     ∷ []
 
--- V0 to V7
+-- V0 to V7, of which V5 is never given
 abbrev verdictNumbers : List Row
 verdictNumbers =
     (verdict Whole, 0 ∷ [])
@@ -239,7 +257,6 @@ verdictNumbers =
     ∷ (verdict HighByte, 2 ∷ [])
     ∷ (verdict UnknownVersion, 3 ∷ [])
     ∷ (verdict HeaderChecksum, 4 ∷ [])
-    ∷ (verdict UnusedSeptetBit, 5 ∷ [])
     ∷ (verdict FrameChecksum, 6 ∷ [])
     ∷ (verdict Ended, 7 ∷ [])
     ∷ []
@@ -248,5 +265,5 @@ abbrev table : List Row
 table = starred ++ (septets ++ (verdicts ++ (records ++ (recordings ++ (receptions ++ (blockSections ++ verdictNumbers))))))
 
 samples : map (λ (row : Row). answer (row .0)) table ≡ map (λ (row : Row). row .1) table
-unfolding choose signed checksumFrom septetOf lowBits withTopBits anyHigh kindOf headerLength frameWidth frameCount streamLength payloadLength frameRule headerRule ruleAt breach faultAt validationFrom recordOf unframed commandIn payloadIn framed framesOf kindBytes streamAs streamOf unwritable Encodings.refusal deliveriesFrom Nexts.refusal streams roomRefusal beginning extended kept outcomeOf Receptions.refusal cut someShort elementSize notBlock flatten
+unfolding choose signed checksumFrom septetOf lowBits withTopBits anyHigh kindOf headerLength frameWidth frameCount streamLength payloadLength frameRule headerRule ruleAt breach faultAt unusedFrames unusedIn countNonzero unusedSeptets validationFrom recordOf unframed commandIn payloadIn framed framesOf kindBytes streamAs streamWith streamOf unwritable Encodings.refusal deliveriesFrom Nexts.refusal streams roomRefusal beginning extended kept outcomeOf Receptions.refusal cut someShort elementSize notBlock flatten
 samples = refl

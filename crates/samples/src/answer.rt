@@ -12,7 +12,7 @@ pub fn septets(answer: septet::Septets) {
     field::byte(answer.septet);
 }
 
-// The record of a whole stream, and whether writing it gives these bytes again.
+// The record of a whole stream, and whether writing it gives these bytes again or has changed them.
 fn again(stream: &[u8]) {
     let mut payload = [0u8; 508];
     let found = recording::next(stream, 0, &mut payload);
@@ -27,6 +27,7 @@ pub fn validate(bytes: &[u8]) {
     let answer = stream::validate(bytes);
     field::decimal(b" V", answer.verdict as u64);
     field::number(answer.offset as u64);
+    field::number(answer.unused_septets as u64);
     if answer.verdict == 0 {
         again(part::first(bytes, answer.offset));
     }

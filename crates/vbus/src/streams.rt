@@ -22,7 +22,7 @@ pub extern "C" fn vbus_extract(bytes: &[u8; 7], used: usize) -> Septets
     septet::extract(*bytes, used)
 }
 
-// The first `used` bytes with the septet's bits as their top bits.
+// The first `used` bytes with the septet's bits as their top bits. Septet bits that stand for no byte are ignored.
 #[no_mangle]
 pub extern "C" fn vbus_inject(bytes: &[u8; 7], used: usize, septet: u8) -> Septets
     ensures { λ r. ⌜ r ≡ injected (now (bytes .entry)) used septet ⌝ }
@@ -30,7 +30,8 @@ pub extern "C" fn vbus_inject(bytes: &[u8; 7], used: usize, septet: u8) -> Septe
     septet::inject(*bytes, used, septet)
 }
 
-// The verdict on the stream that `input` begins with: 0 to 7 for V0 to V7, with the offset.
+// The verdict on the stream that `input` begins with: 0 to 7 for V0 to V7, with the offset, and how many blocks of a whole stream have
+// unused septet bits set.
 #[no_mangle]
 pub extern "C" fn vbus_validate(input: &[u8]) -> Validation
     ensures { λ r. ⌜ r ≡ validationOf (now (input .entry)) ⌝ }
@@ -40,5 +41,6 @@ pub extern "C" fn vbus_validate(input: &[u8]) -> Validation
     Validation {
         verdict: validation.verdict,
         offset: validation.offset,
+        unused_septets: validation.unused_septets,
     }
 }
