@@ -1,9 +1,10 @@
 // One frame: its payload bytes, their septet, and the checksum of both.
-ghost use Prim.Native.Nat.{_+_, _≤_};
+ghost use Prim.Native.Nat.{_+_, _≤_, _<_};
 ghost use mathlib.Core.Path.{_≡_};
 ghost use mathlib.Core.Bool.{true};
 ghost use mathlib.Core.Logic.{_↔_};
-ghost use lib.ListN.{length};
+ghost use lib.ListN.{length, take};
+ghost use Rattle.checksum.specs.Checksum.{checksumOf};
 ghost use Rattle.stream.specs.Stage.{Clean, ReachedFrame, ReachedAll, frameFault, FramesFrom, RightUpTo};
 use crate::Stop;
 use crate::Verdict;
@@ -12,6 +13,14 @@ use crate::high_bytes::all_low;
 use crate::high_bytes::first_high;
 use crate::high_bytes::min;
 use crate::high_bytes::stopped;
+
+// The checksum of a frame's payload bytes and septet, as they came: unused septet bits count.
+fn sum(frame: &[u8], width: usize) -> u8
+    requires { ⌜ width < length (now frame) ⌝ }
+    ensures { λ r. ⌜ r ≡ checksumOf (take (width + 1) (now (frame .entry))) ⌝ }
+{
+    checksum::checksum(&frame[0..width + 1])
+}
 
 // The verdict on the frame that `part` is, or that it is cut off in.
 fn check(part: &[u8], width: usize) -> Stop
@@ -24,7 +33,7 @@ fn check(part: &[u8], width: usize) -> Stop
         return stopped(part, stop);
     }
     let end = width + 1;
-    if checksum::checksum(&part[0..end]) != part[end] {
+    if sum(part, width) != part[end] {
         return at(Verdict::FrameChecksum, end);
     }
     at(Verdict::Whole, size)
@@ -38,8 +47,7 @@ fn is_right(frame: &[u8], width: usize) -> bool
     if !all_low(frame) {
         return false;
     }
-    let end = width + 1;
-    checksum::checksum(&frame[0..end]) == frame[end]
+    sum(frame, width) == frame[width + 1]
 }
 
 // Passes over frames that are right, and returns where the first stands that isn't, or the end.

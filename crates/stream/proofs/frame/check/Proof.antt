@@ -1,6 +1,5 @@
 -- `stream::frame::check` meets its contract: each answer is what the frame reaches, by the laws of one frame. Assumes nothing.
 use native.Mathlib.Omega.{arith}
-use native.Mathlib.Nat.{sub-zero}
 use mathlib.Core.Path.{sym, _∙_}
 use Rattle.stream.proofs.Frames.{frame-stops, frame-sum, frame-whole}
 use borrow.Author.Needs.{needs}
@@ -24,17 +23,8 @@ returns c =
 add-end : tie.Need-add-end
 add-end c = search needs
 
-sub-checksum : tie.Need-sub-checksum
-sub-checksum c = search needs
-
-part-checksum-start : tie.Need-part-checksum-start
-part-checksum-start c = search needs
-
-part-checksum-end : tie.Need-part-checksum-end
-part-checksum-end c = search needs
-
-checksum-requires : tie.Need-checksum-requires
-checksum-requires c κs = search needs
+sum-requires : tie.Need-sum-requires
+sum-requires c κs = search needs
 
 shared-slice-read-if2 : tie.Need-shared-slice-read-if2
 shared-slice-read-if2 c = search needs
@@ -44,20 +34,18 @@ at-requires c κs = search needs
 
 returns-2 : tie.Need-returns-2
 returns-2 c =
-    let sum = rw sub-zero at (c .before .before .before .checksum .ensures) in
     rw (c .at .ensures)
-    (frame-sum (c .before .before .before .before .before .before .before .before .args .width) (c .before .before .before .before .before .before .first-high .ensures) (omega arith)
-    (λ e. c .before .if2 .taken (sum ∙ sym e)))
+    (frame-sum (c .before .before .before .before .before .before .before .args .width) (c .before .before .before .before .before .first-high .ensures) (omega arith)
+    (λ e. c .before .if2 .taken (c .before .before .before .sum .ensures ∙ sym e)))
 
 at-requires-2 : tie.Need-at-requires-2
 at-requires-2 c κs = search needs
 
 returns-3 : tie.Need-returns-3
 returns-3 c =
-    let sum = rw sub-zero at (c .before .before .before .checksum .ensures) in
     rw (c .at2 .ensures)
-    (frame-whole (c .before .before .before .before .before .before .before .before .args .width) (c .before .before .before .before .before .before .first-high .ensures) (omega arith)
-    (sym (c .before .if2 .left) ∙ sum))
+    (frame-whole (c .before .before .before .before .before .before .before .args .width) (c .before .before .before .before .before .first-high .ensures) (omega arith)
+    (sym (c .before .if2 .left) ∙ c .before .before .before .sum .ensures))
 
 pub check-spec : {M : Type 1} → statement M
 check-spec =
@@ -68,10 +56,7 @@ check-spec =
     stopped-requires
     returns
     add-end
-    sub-checksum
-    part-checksum-start
-    part-checksum-end
-    checksum-requires
+    sum-requires
     shared-slice-read-if2
     at-requires
     returns-2

@@ -1,5 +1,4 @@
 -- `stream::frame::is_right` meets its contract: a frame has no fault exactly if it passes every test. Assumes nothing.
-use native.Mathlib.Nat.{sub-zero}
 use mathlib.Core.Path.{sym, _∙_}
 use mathlib.Core.Bool.{true≢false}
 use borrow.Author.Tests.{eqb-true, eq-eqb, not-true, not-false}
@@ -17,43 +16,24 @@ returns c = (
   λ clean. sym (not-true _ (c .if1 .taken)) ∙ c .before .all-low .ensures .1 (clean-low _ _ clean (c .before .before .before .pre .1)),
 )
 
-add-end : tie.Need-add-end
-add-end c = search needs
+sum-requires : tie.Need-sum-requires
+sum-requires c κs = search needs
 
-sub-checksum : tie.Need-sub-checksum
-sub-checksum c = search needs
-
-part-checksum-start : tie.Need-part-checksum-start
-part-checksum-start c = search needs
-
-part-checksum-end : tie.Need-part-checksum-end
-part-checksum-end c = search needs
-
-checksum-requires : tie.Need-checksum-requires
-checksum-requires c κs = search needs
+add-result : tie.Need-add-result
+add-result c = search needs
 
 shared-slice-read-result : tie.Need-shared-slice-read-result
 shared-slice-read-result c = search needs
 
 returns-2 : tie.Need-returns-2
 returns-2 c =
-    let start = c .before .before .before .before .before .before in
-    let low = c .before .before .before .before .all-low .ensures .0 (not-false _ (c .before .before .before .if1 .left)) in
-    let sum = rw sub-zero at (c .before .checksum .ensures) in (
+    let start = c .before .before .before .before .before in
+    let low = c .before .before .before .all-low .ensures .0 (not-false _ (c .before .before .if1 .left)) in
+    let sum = c .before .sum .ensures in (
       λ e. frame-right (start .args .width) (start .args .frame .now) (start .pre .1) low (sym (eqb-true _ _ e) ∙ sum),
       λ clean. eq-eqb _ _ (sum ∙ sym (clean-sum _ _ clean)),
     )
 
 pub is-right-spec : {M : Type 1} → statement M
 is-right-spec =
-    tie.close
-    (tie.spec
-    all-low-requires
-    returns
-    add-end
-    sub-checksum
-    part-checksum-start
-    part-checksum-end
-    checksum-requires
-    shared-slice-read-result
-    returns-2)
+    tie.close (tie.spec all-low-requires returns sum-requires add-result shared-slice-read-result returns-2)
