@@ -21,6 +21,11 @@
  * stand in the order in which they are checked; the first that applies is given. After a refusal every buffer holds
  * what it held before, and every other field of the answer is 0, but a receiver, which comes back as it was. A function
  * without `number` never refuses.
+ *
+ * Unused septet bits. Bit i of a septet is the top bit of byte i of its block. A packet's frame has four bytes and a
+ * datagram six, so bits 4 to 6 of a packet's septets and bit 6 of a datagram's stand for no byte; a telegram's frame
+ * has seven, and uses all. Some controllers set unused bits: they are ignored in what is read, but the checksums cover
+ * them as they came. Whatever is written has 0 there.
  */
 #ifndef VBUS_H
 #define VBUS_H
@@ -33,7 +38,7 @@
 
 /* The version of this library, not of a stream. */
 #define VBUS_VERSION_MAJOR 0
-#define VBUS_VERSION_MINOR 2
+#define VBUS_VERSION_MINOR 3
 #define VBUS_VERSION_PATCH 0
 
 /* The longest payload and the longest stream, both those of a packet with 127 frames. */
@@ -60,7 +65,7 @@ enum vbus_refusal {
     VBUS_WRONG_LENGTH = 4,          /* the payload's length isn't the record's */
     VBUS_OUTPUT_TOO_SHORT = 5,      /* too little room for what would be written */
     VBUS_START_PAST_END = 6,        /* the place to start from is behind the input */
-    VBUS_WRONG_SEPTET_BLOCK = 7,    /* too long, or a bit is set that must be 0 */
+    VBUS_WRONG_SEPTET_BLOCK = 7,    /* too long, or a byte or the septet is 0x80 or more */
     VBUS_NOT_BLOCK_PACKET = 8,      /* the header or the payload's length isn't a block packet's */
     VBUS_SECTION_PAST_END = 9,      /* a section runs past the payload's end */
     VBUS_NO_SUCH_PART = 10,         /* no section or element has that number */
@@ -78,6 +83,7 @@ typedef struct {
 typedef struct {
     uint8_t verdict; /* enum vbus_verdict */
     size_t offset;
+    size_t unused_septets; /* blocks of a whole stream that have unused septet bits set */
 } vbus_validation;
 
 typedef struct {
@@ -133,25 +139,26 @@ uint8_t vbus_checksum(const uint8_t *bytes, size_t n);
 vbus_septets vbus_extract(const uint8_t bytes[7], size_t length);
 
 /* Puts the top bits back: byte i of the answer is byte i with bit i of the septet as its top bit. The answer's bytes
- * from `length` on are 0. `length` is the length handed in, `septet` is 0: its bits are back in the bytes.
- *   VBUS_WRONG_SEPTET_BLOCK (7): length is above 7, or one of the first `length` bytes or the septet is 0x80 or more,
- *     or a septet bit at or above `length` is set */
+ * from `length` on are 0. `length` is the length handed in, `septet` is 0: its bits are back in the bytes. Unused bits,
+ * those at or above `length`, are ignored.
+ *   VBUS_WRONG_SEPTET_BLOCK (7): length is above 7, or one of the first `length` bytes or the septet is 0x80 or more */
 vbus_septets vbus_inject(const uint8_t bytes[7], size_t length, uint8_t septet);
 
-/* Verdicts on a stream. The offset is that of the wrong byte: of the checksum, or of the septet. */
+/* Verdicts on a stream. The offset is that of the wrong byte; where a checksum is wrong, the checksum's. 5 is no longer
+ * given: it stood for an unused septet bit that is set. */
 enum vbus_verdict {
-    VBUS_VERDICT_WHOLE = 0,             /* a whole stream; the offset is its length, and what follows isn't looked at */
-    VBUS_VERDICT_NO_SYNC = 1,           /* the byte at offset 0 isn't 0xAA */
-    VBUS_VERDICT_HIGH_BYTE = 2,         /* a byte of 0x80 or more at a later offset */
-    VBUS_VERDICT_UNKNOWN_VERSION = 3,   /* the version, at offset 5, is none of those above */
-    VBUS_VERDICT_HEADER_CHECKSUM = 4,   /* wrong checksum of a packet's or telegram's header, or of a datagram */
-    VBUS_VERDICT_UNUSED_SEPTET_BIT = 5, /* a bit that must be 0 is set: 4 to 6 in a packet, 6 in a datagram */
-    VBUS_VERDICT_FRAME_CHECKSUM = 6,    /* wrong checksum of a frame */
-    VBUS_VERDICT_ENDED = 7              /* the input ends before the stream does; the offset is n */
+    VBUS_VERDICT_WHOLE = 0,           /* a whole stream; the offset is its length, and what follows isn't looked at */
+    VBUS_VERDICT_NO_SYNC = 1,         /* the byte at offset 0 isn't 0xAA */
+    VBUS_VERDICT_HIGH_BYTE = 2,       /* a byte of 0x80 or more at a later offset */
+    VBUS_VERDICT_UNKNOWN_VERSION = 3, /* the version, at offset 5, is none of those above */
+    VBUS_VERDICT_HEADER_CHECKSUM = 4, /* wrong checksum of a packet's or telegram's header, or of a datagram */
+    VBUS_VERDICT_FRAME_CHECKSUM = 6,  /* wrong checksum of a frame */
+    VBUS_VERDICT_ENDED = 7            /* the input ends before the stream does; the offset is n */
 };
 
 /* Looks at the stream that begins at the first byte. Gives the fault at the lowest offset, of two there the one with
- * the lower number, or VBUS_VERDICT_WHOLE. */
+ * the lower number, or VBUS_VERDICT_WHOLE. Of a whole stream `unused_septets` counts the blocks (frames, or the one
+ * block of a datagram) that have unused septet bits set; with a fault it is 0. */
 vbus_validation vbus_validate(const uint8_t *input, size_t n);
 
 /* Finds the first whole stream (VBUS_VERDICT_WHOLE) that begins at `start` or later, and reads its record. To read a
@@ -189,7 +196,8 @@ vbus_receiver vbus_reset(vbus_receiver receiver);
 vbus_written vbus_encode(vbus_header header, const uint8_t *payload, size_t n, uint8_t *out, size_t room);
 
 /* Writes the streams of all records of a recording, in their order and with nothing between them, to the start of
- * `out`; the bytes behind them stay. It never needs more room than n.
+ * `out`; the bytes behind them stay. It never needs more room than n. They are the streams that vbus_encode writes:
+ * unused septet bits are 0 in them, and the checksums are those of the bytes written.
  *   VBUS_OUTPUT_TOO_SHORT (5): room is less than the length of all those streams */
 vbus_written vbus_normalize(const uint8_t *input, size_t n, uint8_t *out, size_t room);
 

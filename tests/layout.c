@@ -76,8 +76,11 @@ static int part_is(vbus_part a, uint32_t number, size_t start, size_t length) {
 static int septets_are(vbus_septets a, uint32_t number, const uint8_t *bytes, size_t length, uint8_t septet) {
     return a.number == number && memcmp(a.bytes, bytes, 7) == 0 && a.length == length && a.septet == septet;
 }
-static int validation_is(vbus_validation a, uint8_t verdict, size_t offset) {
-    return a.verdict == verdict && a.offset == offset;
+static int whole_is(vbus_validation a, size_t length, size_t unused_septets) {
+    return a.verdict == VBUS_VERDICT_WHOLE && a.offset == length && a.unused_septets == unused_septets;
+}
+static int fault_is(vbus_validation a, uint8_t verdict, size_t offset) {
+    return a.verdict == verdict && a.offset == offset && a.unused_septets == 0;
 }
 
 /* Document 01's numbers, written out once more: a name that has another one in the header shows here. */
@@ -106,7 +109,6 @@ static const struct {
     NUMBER(VBUS_VERDICT_HIGH_BYTE, 2),
     NUMBER(VBUS_VERDICT_UNKNOWN_VERSION, 3),
     NUMBER(VBUS_VERDICT_HEADER_CHECKSUM, 4),
-    NUMBER(VBUS_VERDICT_UNUSED_SEPTET_BIT, 5),
     NUMBER(VBUS_VERDICT_FRAME_CHECKSUM, 6),
     NUMBER(VBUS_VERDICT_ENDED, 7),
     NUMBER(VBUS_MAX_PAYLOAD, 508),
@@ -123,7 +125,8 @@ static void names(void) {
 static void layouts(void) {
     CHECK(sizeof(vbus_header) == 8 && offsetof(vbus_header, version) == 0 && offsetof(vbus_header, destination) == 2 &&
           offsetof(vbus_header, source) == 4 && offsetof(vbus_header, command) == 6);
-    CHECK(sizeof(vbus_validation) == 16 && offsetof(vbus_validation, verdict) == 0 && offsetof(vbus_validation, offset) == 8);
+    CHECK(sizeof(vbus_validation) == 24 && offsetof(vbus_validation, verdict) == 0 && offsetof(vbus_validation, offset) == 8 &&
+          offsetof(vbus_validation, unused_septets) == 16);
     CHECK(sizeof(vbus_found) == 40 && offsetof(vbus_found, number) == 0 && offsetof(vbus_found, found) == 4 &&
           offsetof(vbus_found, place) == 8 && offsetof(vbus_found, length) == 16 && offsetof(vbus_found, header) == 24 &&
           offsetof(vbus_found, payload_length) == 32);
@@ -139,7 +142,8 @@ static void layouts(void) {
     CHECK(sizeof(vbus_septets) == 32 && offsetof(vbus_septets, number) == 0 && offsetof(vbus_septets, bytes) == 4 &&
           offsetof(vbus_septets, length) == 16 && offsetof(vbus_septets, septet) == 24);
     CHECK(sizeof(bool) == 1 && WIDTH(vbus_validation, verdict) == 1 && WIDTH(vbus_validation, offset) == 8 &&
-          WIDTH(vbus_found, number) == 4 && WIDTH(vbus_found, payload_length) == 8 && WIDTH(vbus_received, number) == 4 &&
+          WIDTH(vbus_validation, unused_septets) == 8 && WIDTH(vbus_found, number) == 4 &&
+          WIDTH(vbus_found, payload_length) == 8 && WIDTH(vbus_received, number) == 4 &&
           WIDTH(vbus_received, found) == 1 && WIDTH(vbus_received, used) == 8 && WIDTH(vbus_written, number) == 4 &&
           WIDTH(vbus_written, length) == 8 && WIDTH(vbus_count, number) == 4 && WIDTH(vbus_count, count) == 8 &&
           WIDTH(vbus_part, number) == 4 && WIDTH(vbus_part, length) == 8 && WIDTH(vbus_septets, number) == 4 &&
@@ -160,14 +164,18 @@ static void checksum_and_septets(void) {
     CHECK(septets_are(vbus_extract(high, 7), 0, low7, 7, 0x55));
     CHECK(septets_are(vbus_inject(low4, 4, 0x05), 0, high4, 4, 0));
     CHECK(septets_are(vbus_inject(low7, 7, 0x55), 0, high, 7, 0));
-    CHECK(septets_are(vbus_inject(high, 0, 0), 0, (const uint8_t[7]){0}, 0, 0));
-
     const uint8_t zero[7] = {0};
+    CHECK(septets_are(vbus_inject(high, 0, 0), 0, zero, 0, 0));
+    /* septet bits at or above the length */
+    CHECK(septets_are(vbus_inject(low7, 4, 0x75), 0, high4, 4, 0));
+    CHECK(septets_are(vbus_inject(low7, 4, 0x10), 0, low4, 4, 0));
+    CHECK(septets_are(vbus_inject(high, 0, 0x7F), 0, zero, 0, 0));
+
     CHECK(septets_are(vbus_extract(high, 8), VBUS_WRONG_SEPTET_BLOCK, zero, 0, 0));
     CHECK(septets_are(vbus_inject(low7, 8, 0x05), VBUS_WRONG_SEPTET_BLOCK, zero, 0, 0));
     CHECK(septets_are(vbus_inject(high, 4, 0x05), VBUS_WRONG_SEPTET_BLOCK, zero, 0, 0));
     CHECK(septets_are(vbus_inject(low7, 7, 0x80), VBUS_WRONG_SEPTET_BLOCK, zero, 0, 0));
-    CHECK(septets_are(vbus_inject(low7, 4, 0x10), VBUS_WRONG_SEPTET_BLOCK, zero, 0, 0));
+    CHECK(septets_are(vbus_inject(low7, 4, 0x80), VBUS_WRONG_SEPTET_BLOCK, zero, 0, 0));
 }
 
 static void packet_with(const uint8_t *payload, size_t frames, uint8_t *out) {
@@ -219,23 +227,20 @@ static void verdicts(void) {
     uint8_t packet[40], bad[40], input[MIXED];
     packet_of(packet);
     mix(input);
-    CHECK(validation_is(vbus_validate(packet, 40), VBUS_VERDICT_WHOLE, 40));
-    CHECK(validation_is(vbus_validate(input + 3, MIXED - 3), VBUS_VERDICT_WHOLE, 40));
-    CHECK(validation_is(vbus_validate(packet + 1, 39), VBUS_VERDICT_NO_SYNC, 0));
-    CHECK(validation_is(vbus_validate(input + 1, MIXED - 1), VBUS_VERDICT_HIGH_BYTE, 1));
+    CHECK(whole_is(vbus_validate(packet, 40), 40, 0));
+    CHECK(whole_is(vbus_validate(input + 3, MIXED - 3), 40, 0));
+    CHECK(fault_is(vbus_validate(packet + 1, 39), VBUS_VERDICT_NO_SYNC, 0));
+    CHECK(fault_is(vbus_validate(input + 1, MIXED - 1), VBUS_VERDICT_HIGH_BYTE, 1));
     memcpy(bad, packet, 40);
     bad[5] = 0x40;
-    CHECK(validation_is(vbus_validate(bad, 40), VBUS_VERDICT_UNKNOWN_VERSION, 5));
+    CHECK(fault_is(vbus_validate(bad, 40), VBUS_VERDICT_UNKNOWN_VERSION, 5));
     bad[5] = packet[5];
     bad[9] ^= 1;
-    CHECK(validation_is(vbus_validate(bad, 40), VBUS_VERDICT_HEADER_CHECKSUM, 9));
+    CHECK(fault_is(vbus_validate(bad, 40), VBUS_VERDICT_HEADER_CHECKSUM, 9));
     bad[9] = packet[9];
-    bad[26] = 0x10;
-    CHECK(validation_is(vbus_validate(bad, 40), VBUS_VERDICT_UNUSED_SEPTET_BIT, 26));
-    bad[26] = packet[26];
     bad[39] ^= 1;
-    CHECK(validation_is(vbus_validate(bad, 40), VBUS_VERDICT_FRAME_CHECKSUM, 39));
-    CHECK(validation_is(vbus_validate(packet, 39), VBUS_VERDICT_ENDED, 39));
+    CHECK(fault_is(vbus_validate(bad, 40), VBUS_VERDICT_FRAME_CHECKSUM, 39));
+    CHECK(fault_is(vbus_validate(packet, 39), VBUS_VERDICT_ENDED, 39));
 }
 
 static void finding(void) {
@@ -328,6 +333,44 @@ static void normalizing(void) {
     paint(out, sizeof out);
     CHECK(written_is(vbus_normalize(input, MIXED, out, 80), VBUS_OUTPUT_TOO_SHORT, 0));
     CHECK(painted(out, 0, sizeof out));
+}
+
+/* The packet with all unused septet bits in its first frame, one in its third and two in its last, under their checksums.
+ * Used bits are set in all three. */
+static void packet_with_unused(uint8_t packet[40]) {
+    packet_of(packet);
+    packet[14] |= 0x70;
+    packet[15] = sum(packet + 10, 5);
+    packet[26] |= 0x10;
+    packet[27] = sum(packet + 22, 5);
+    packet[38] |= 0x60;
+    packet[39] = sum(packet + 34, 5);
+}
+
+static void unused_septets(void) {
+    uint8_t packet[40], clean[40], other[16], out[64], payload[VBUS_MAX_PAYLOAD], memory[VBUS_MAX_STREAM];
+    packet_with_unused(packet);
+    packet_of(clean);
+    memcpy(other, datagram, 16);
+    other[14] = 0x40;
+    other[15] = 0x54;
+    CHECK(whole_is(vbus_validate(packet, 40), 40, 3));
+    CHECK(whole_is(vbus_validate(other, 16), 16, 1));
+    CHECK(whole_is(vbus_validate(telegram, 17), 17, 0));
+    CHECK(found_is(vbus_next(packet, 40, 0, payload, 20), 0, 1, 0, 40, packet_header(), 20));
+    CHECK(memcmp(payload, payload20, 20) == 0);
+    paint(payload, sizeof payload);
+    CHECK(received_is(vbus_receive(fresh, memory, packet, 40, payload, sizeof payload), 40, 40, packet_header(), 20));
+    CHECK(memcmp(payload, payload20, 20) == 0 && painted(payload, 20, sizeof payload));
+    CHECK(written_is(vbus_normalize(packet, 40, out, 40), 0, 40) && memcmp(out, clean, 40) == 0);
+    CHECK(written_is(vbus_normalize(other, 16, out, 16), 0, 16) && memcmp(out, datagram, 16) == 0);
+    paint(out, sizeof out);
+    CHECK(written_is(vbus_normalize(packet, 40, out, 39), VBUS_OUTPUT_TOO_SHORT, 0) && painted(out, 0, sizeof out));
+    /* the checksums of the septets without them */
+    packet[27] = clean[27];
+    other[15] = datagram[15];
+    CHECK(fault_is(vbus_validate(packet, 40), VBUS_VERDICT_FRAME_CHECKSUM, 27));
+    CHECK(fault_is(vbus_validate(other, 16), VBUS_VERDICT_HEADER_CHECKSUM, 15));
 }
 
 static void writing(void) {
@@ -458,7 +501,7 @@ static void null_with_zero(void) {
     const vbus_header block = block_header();
     uint8_t out[16], memory[VBUS_MAX_STREAM], payload[VBUS_MAX_PAYLOAD];
     CHECK(vbus_checksum(NULL, 0) == 0x7F);
-    CHECK(validation_is(vbus_validate(NULL, 0), VBUS_VERDICT_ENDED, 0));
+    CHECK(fault_is(vbus_validate(NULL, 0), VBUS_VERDICT_ENDED, 0));
     CHECK(nothing_found(vbus_next(NULL, 0, 0, NULL, 0), 0));
     CHECK(nothing_found(vbus_next(NULL, 0, 1, NULL, 0), VBUS_START_PAST_END));
     CHECK(found_is(vbus_next(clearance, 8, 0, NULL, 0), 0, 1, 0, 8, clearance_header(), 0));
@@ -495,6 +538,7 @@ int main(void) {
     receiving_the_longest();
     resetting();
     normalizing();
+    unused_septets();
     writing();
     refused_writing();
     signed_numbers();

@@ -295,7 +295,23 @@ static void writing(const uint8_t *payload) {
     }
 }
 
-/* packets of all sizes one after the other, datagrams and telegrams between */
+/* Sets all unused septet bits of whole streams that stand end to end, and puts their checksums right. */
+static void set_unused_bits(uint8_t *streams, size_t n) {
+    for (uint8_t *s = streams; s < streams + n;) {
+        size_t length = vbus_validate(s, (size_t)(streams + n - s)).offset;
+        if (s[5] == VBUS_DATAGRAM) {
+            s[14] |= 0x40;
+            s[15] = vbus_checksum(s + 1, 14);
+        }
+        for (size_t frame = 10; s[5] == VBUS_PACKET && frame < length; frame += 6) {
+            s[frame + 4] |= 0x70;
+            s[frame + 5] = vbus_checksum(s + frame, 5);
+        }
+        s += length;
+    }
+}
+
+/* packets of all sizes one after the other, datagrams and telegrams between; the same with unused septet bits */
 static void whole_streams(const uint8_t *payload) {
     size_t n = 0;
     for (unsigned frames = 0; frames <= 127; frames++) {
@@ -305,10 +321,13 @@ static void whole_streams(const uint8_t *payload) {
     }
     recording(n);
     received(n);
+    set_unused_bits(input, n);
+    recording(n);
+    received(n);
 }
 
 /* the stream in `stream`, at every step bytes: the byte there damaged in two ways, the stream cut off there, and held */
-static void damaged(size_t size, size_t step) {
+static void damaged_as_it_is(size_t size, size_t step) {
     for (size_t at = 0; at < size; at += step) {
         memcpy(input, stream, size);
         input[at] ^= 1;
@@ -320,6 +339,13 @@ static void damaged(size_t size, size_t step) {
         unfinished(size, at);
     }
     unfinished(size, size - 1);
+}
+
+/* the same with unused septet bits too */
+static void damaged(size_t size, size_t step) {
+    damaged_as_it_is(size, step);
+    set_unused_bits(stream, size);
+    damaged_as_it_is(size, step);
 }
 
 static void damaged_streams(const uint8_t *payload) {

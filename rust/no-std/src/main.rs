@@ -53,6 +53,8 @@ fn reading() {
     let error: &dyn core::error::Error = &error;
     let text = "the starting place lies past the input's end";
     assert_eq!(Line::of(error).text(), text);
+    let whole = vbus::validate(&RECORDING[3..]).unwrap();
+    assert_eq!((whole.length, whole.unused_septets), (8, 0));
     let fault = vbus::validate(&RECORDING).unwrap_err();
     let fault: &dyn core::error::Error = &fault;
     let text = "at offset 3: a later byte is 0x80 or more";

@@ -39,6 +39,8 @@ pub struct Validation {
     pub verdict: u8,
     /// The offset of the fault, or the length of the stream.
     pub offset: usize,
+    /// How many blocks of a whole stream have unused septet bits set.
+    pub unused_septets: usize,
 }
 
 /// A record and where its stream lies.
@@ -143,7 +145,7 @@ extern "C" {
     /// Puts the top bits back into a block.
     pub fn vbus_inject(bytes: *const [u8; 7], length: usize, septet: u8) -> Septets;
 
-    /// The first fault of the stream at the input's start.
+    /// Whether the stream at the input's start is whole, or its first fault.
     pub fn vbus_validate(input: *const u8, n: usize) -> Validation;
 
     /// The first record at `start` or later; its payload goes to `payload`.

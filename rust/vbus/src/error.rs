@@ -69,7 +69,7 @@ numbered! {
         4 WrongLength "the payload's length does not fit the header";
         5 OutputTooShort "the output is too short for the result";
         6 StartPastEnd "the starting place lies past the input's end";
-        7 WrongSeptetBlock "the septet block is longer than seven bytes, or has bits set that must be zero";
+        7 WrongSeptetBlock "the septet block is longer than seven bytes, or a byte or the septet is 0x80 or more";
         8 NotBlockPacket "the header or the payload's length is not that of a block packet";
         9 SectionPastEnd "a section runs past the payload's end";
         10 NoSuchPart "there is no section or element with that number";
@@ -81,6 +81,8 @@ impl error::Error for Error {}
 
 numbered! {
     /// What is wrong with a stream.
+    ///
+    /// Number 5 is no longer given: it stood for an unused septet bit that is set.
     ///
     /// ```
     /// let verdict = vbus::validate(&[0x00]).unwrap_err().verdict;
@@ -94,7 +96,6 @@ numbered! {
         2 HighByte "a later byte is 0x80 or more";
         3 UnknownVersion "the version is unknown";
         4 HeaderChecksum "the checksum of a header or of a datagram is wrong";
-        5 UnusedSeptetBit "a septet bit that must be zero is set";
         6 FrameChecksum "the checksum of a frame is wrong";
         7 Ended "the input ends before the stream does";
     }

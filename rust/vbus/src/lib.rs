@@ -100,6 +100,14 @@ pub fn extract(block: &mut [u8]) -> Result<u8, Error> {
 }
 
 /// Puts the bits of a septet back as the top bits of at most seven bytes.
+///
+/// Unused bits, those that stand for no byte of the block, are ignored.
+///
+/// ```
+/// let mut block = [0x68, 0x03, 0x74, 0x01];
+/// assert_eq!(vbus::inject(&mut block, 0x75), Ok(()));
+/// assert_eq!(block, [0xE8, 0x03, 0xF4, 0x01]);
+/// ```
 pub fn inject(block: &mut [u8], septet: u8) -> Result<(), Error> {
     let bytes = seven(block);
     // SAFETY: `bytes` is an array of seven bytes.
@@ -120,24 +128,37 @@ fn seven(block: &[u8]) -> [u8; 7] {
 
 // Reading
 
-/// The length of the stream at the start of `input`, or its first fault.
+/// A whole stream at the start of the input. Made by [`validate`].
+#[derive(Clone, Copy, PartialEq, Eq, Hash, Debug)]
+pub struct Whole {
+    /// The stream's length.
+    pub length: usize,
+    /// How many of its blocks have unused septet bits set: bits 4 to 6 in a packet's frame, bit 6
+    /// in a datagram. Reading ignores them; what is written has none.
+    pub unused_septets: usize,
+}
+
+/// The whole stream at the start of `input`, or the first fault there.
 ///
 /// Bytes behind the stream are not looked at.
 ///
 /// ```
-/// use vbus::{validate, Fault, Verdict};
+/// use vbus::{validate, Fault, Verdict, Whole};
 ///
 /// let mut stream = [0xAA, 0x10, 0x20, 0x31, 0x77, 0x30, 0x01, 0x76];
-/// assert_eq!(validate(&stream), Ok(8));
+/// assert_eq!(validate(&stream), Ok(Whole { length: 8, unused_septets: 0 }));
 /// stream[7] = 0x77;
 /// let fault = Fault { verdict: Verdict::HeaderChecksum, offset: 7 };
 /// assert_eq!(validate(&stream), Err(fault));
 /// ```
-pub fn validate(input: &[u8]) -> Result<usize, Fault> {
+pub fn validate(input: &[u8]) -> Result<Whole, Fault> {
     // SAFETY: pointer and count are those of a slice.
     let answer = unsafe { vbus_sys::vbus_validate(input.as_ptr(), input.len()) };
     match answer.verdict {
-        0 => Ok(answer.offset),
+        0 => Ok(Whole {
+            length: answer.offset,
+            unused_septets: answer.unused_septets,
+        }),
         number => Err(Fault {
             verdict: Verdict::from_number(number)
                 .expect("libvbus gives only verdicts of the table"),
@@ -271,7 +292,8 @@ pub fn encode(header: Header, payload: &[u8], out: &mut [u8]) -> Result<usize, E
 /// Writes the streams of all records of a recording to the start of `out`, with nothing between
 /// them, and returns their length.
 ///
-/// As much room as the recording's length always suffices.
+/// They are those that [`encode`] writes: unused septet bits are 0 in them. As much room as the
+/// recording's length always suffices.
 ///
 /// ```
 /// let recording = [0x10, 0xAA, 0x10, 0x20, 0x31, 0x77, 0x30, 0x01, 0x76, 0xAA];

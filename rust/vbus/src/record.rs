@@ -222,7 +222,8 @@ pub fn encode_to_vec(header: Header, payload: &[u8]) -> Result<Vec<u8>, Error> {
     Ok(out[..length].to_vec())
 }
 
-/// The streams of all records of a recording, with nothing between them.
+/// The streams of all records of a recording, with nothing between them; unused septet bits are 0
+/// in them.
 ///
 /// ```
 /// let stream = [0xAA, 0x10, 0x20, 0x31, 0x77, 0x30, 0x01, 0x76];
@@ -231,7 +232,8 @@ pub fn encode_to_vec(header: Header, payload: &[u8]) -> Result<Vec<u8>, Error> {
 /// ```
 pub fn normalize_to_vec(recording: &[u8]) -> Vec<u8> {
     let mut out = vec![0; recording.len()];
-    let length = normalize(recording, &mut out).expect("the streams are part of the recording");
+    let length =
+        normalize(recording, &mut out).expect("the streams are no longer than the recording");
     out.truncate(length);
     out
 }

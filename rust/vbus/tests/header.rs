@@ -93,7 +93,7 @@ fn numbers_of_refusals() {
     assert_eq!(Error::from_number(12), None);
 }
 
-/// The verdicts have these numbers, and there are no others.
+/// The verdicts have these numbers, and there are no others: 5 is no longer given.
 #[test]
 fn numbers_of_verdicts() {
     let verdicts = [
@@ -101,7 +101,6 @@ fn numbers_of_verdicts() {
         (2, Verdict::HighByte),
         (3, Verdict::UnknownVersion),
         (4, Verdict::HeaderChecksum),
-        (5, Verdict::UnusedSeptetBit),
         (6, Verdict::FrameChecksum),
         (7, Verdict::Ended),
     ];
@@ -111,6 +110,7 @@ fn numbers_of_verdicts() {
         assert_eq!(Verdict::from_number(number), Some(verdict));
     }
     assert_eq!(Verdict::from_number(0), None);
+    assert_eq!(Verdict::from_number(5), None);
     assert_eq!(Verdict::from_number(8), None);
 }
 

@@ -10,6 +10,12 @@ const BLOCK: [u8; 20] = [
     0, 0x08, 0, 0, 1, 0x01, 0, 0, 0x10, 0, 0x20, 0x80, 1, 0x77, 0, 0, 9, 9, 9, 9,
 ];
 
+/// P1 or D1 with these bytes as septet and checksum, its last two.
+fn ending(mut stream: [u8; 16], last: [u8; 2]) -> [u8; 16] {
+    stream[14..].copy_from_slice(&last);
+    stream
+}
+
 fn block_header() -> Header {
     Header::packet(0x0015, 0x7E21, 0x0100)
 }
@@ -109,6 +115,7 @@ fn refusals() {
     assert_eq!(next(&P1, 17, &mut []), Err(Error::StartPastEnd));
     assert_eq!(extract(&mut [0; 8]), Err(Error::WrongSeptetBlock));
     assert_eq!(inject(&mut [0x80], 0), Err(Error::WrongSeptetBlock));
+    assert_eq!(inject(&mut [0x00], 0x80), Err(Error::WrongSeptetBlock));
     let block = block_header();
     assert_eq!(section(unknown, &[], 0), Err(Error::NotBlockPacket));
     assert_eq!(section(block, &[1, 1, 0, 0], 0), Err(Error::SectionPastEnd));
@@ -127,20 +134,86 @@ fn faults() {
         let fault = validate(&stream).unwrap_err();
         (fault.verdict, fault.offset)
     };
-    assert_eq!(validate(&P1), Ok(16));
+    let whole = Whole {
+        length: 16,
+        unused_septets: 0,
+    };
+    assert_eq!(validate(&P1), Ok(whole));
     assert_eq!(fault(&[(0, 0x2A)]), (Verdict::NoSync, 0));
     assert_eq!(fault(&[(3, 0x80)]), (Verdict::HighByte, 3));
     assert_eq!(fault(&[(5, 0x11)]), (Verdict::UnknownVersion, 5));
     assert_eq!(fault(&[(9, 0x20)]), (Verdict::HeaderChecksum, 9));
-    // With its checksum right.
-    let unused = [(14, 0x10), (15, 0x55)];
-    assert_eq!(fault(&unused), (Verdict::UnusedSeptetBit, 14));
     assert_eq!(fault(&[(15, 0x64)]), (Verdict::FrameChecksum, 15));
     let ended = Fault {
         verdict: Verdict::Ended,
         offset: 15,
     };
     assert_eq!(validate(&P1[..15]), Err(ended));
+}
+
+#[test]
+fn unused_septet_bits() {
+    let (packet, datagram) = (ending(P1, [0x10, 0x55]), ending(D1, [0x40, 0x54]));
+    for stream in [packet, datagram] {
+        let whole = Whole {
+            length: 16,
+            unused_septets: 1,
+        };
+        assert_eq!(validate(&stream), Ok(whole));
+    }
+    let recording = [packet, datagram].concat();
+    let mut buffer = [0; MAX_PAYLOAD];
+    let found = next(&recording, 0, &mut buffer).unwrap().unwrap();
+    assert_eq!((found.place, found.length), (0, 16));
+    assert_eq!(found.payload, [0x07, 0x04, 0x0F, 0x00]);
+    let found = next(&recording, 16, &mut buffer).unwrap().unwrap();
+    assert_eq!((found.place, found.length), (16, 16));
+    assert_eq!(found.payload, [0; 6]);
+    let mut out = [0; 32];
+    assert_eq!(normalize(&recording, &mut out), Ok(32));
+    assert_eq!(out[..], [P1, D1].concat());
+}
+
+/// The first and the third frame have unused septet bits set, beside bits that stand for bytes.
+#[test]
+fn unused_septet_bits_in_some_frames() {
+    let stream = [
+        0xAA, 0x11, 0x44, 0x10, 0x66, 0x10, 0x00, 0x02, 0x03, 0x1F, // header
+        0x68, 0x03, 0x74, 0x01, 0x65, 0x3A, // E8 03 F4 01
+        0x07, 0x04, 0x0F, 0x7F, 0x09, 0x5D, // 87 04 0F FF
+        0x01, 0x02, 0x03, 0x04, 0x1A, 0x5B, // 01 82 03 84
+    ];
+    let whole = Whole {
+        length: 28,
+        unused_septets: 2,
+    };
+    assert_eq!(validate(&stream), Ok(whole));
+    let mut buffer = [0; MAX_PAYLOAD];
+    let found = next(&stream, 0, &mut buffer).unwrap().unwrap();
+    let payload = [
+        0xE8, 0x03, 0xF4, 0x01, 0x87, 0x04, 0x0F, 0xFF, 0x01, 0x82, 0x03, 0x84,
+    ];
+    assert_eq!(found.payload, payload);
+    let mut again = [0; 28];
+    assert_eq!(encode(found.header, found.payload, &mut again), Ok(28));
+    let mut written = stream;
+    written[14..16].copy_from_slice(&[0x05, 0x1A]);
+    written[26..].copy_from_slice(&[0x0A, 0x6B]);
+    assert_eq!(again, written);
+}
+
+/// A checksum covers the septet as it came.
+#[test]
+fn checksums_without_unused_septet_bits() {
+    let fault = |stream: [u8; 16]| {
+        let fault = validate(&stream).unwrap_err();
+        assert_eq!(next(&stream, 0, &mut [0; MAX_PAYLOAD]), Ok(None));
+        (fault.verdict, fault.offset)
+    };
+    let packet = ending(P1, [0x10, 0x65]);
+    assert_eq!(fault(packet), (Verdict::FrameChecksum, 15));
+    let datagram = ending(D1, [0x40, 0x14]);
+    assert_eq!(fault(datagram), (Verdict::HeaderChecksum, 15));
 }
 
 #[test]

@@ -144,6 +144,21 @@ fn what_a_record_holds() {
 }
 
 #[test]
+fn unused_septet_bits_are_ignored() {
+    let mut unused = P1;
+    unused[14..].copy_from_slice(&[0x10, 0x55]);
+    let mut receiver = Receiver::new();
+    assert_eq!(receiver.receive(&unused[..14]).record, None);
+    let received = receiver.receive(&unused[14..]);
+    let record = received.record.unwrap();
+    assert_eq!((received.used, record.length), (2, 16));
+    assert_eq!(record.payload, [0x07, 0x04, 0x0F, 0x00]);
+    // Under the checksum of the septet without it.
+    unused[15] = 0x65;
+    assert_eq!(receiver.receive(&unused).record, None);
+}
+
+#[test]
 fn made_at_compile_time_copied_and_shown() {
     const FRESH: Receiver = Receiver::new();
     let mut receiver = FRESH;

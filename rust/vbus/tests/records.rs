@@ -64,6 +64,12 @@ fn normalizing() {
     let input = [&P1[..], &P1[..9], &T2].concat();
     assert_eq!(normalize_to_vec(&input), [&P1[..], &T2].concat());
     assert_eq!(normalize_to_vec(&[]), []);
+    // An unused septet bit is written as 0.
+    let mut unused = P1;
+    unused[14..].copy_from_slice(&[0x10, 0x55]);
+    assert_eq!(normalize_to_vec(&unused), P1);
+    let entry = records(&unused).next().unwrap();
+    assert_eq!(entry.record.to_stream().unwrap(), P1);
 }
 
 #[test]
