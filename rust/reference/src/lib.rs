@@ -48,11 +48,13 @@ pub struct Septets {
     pub septet: u8,
 }
 
-/// Verdict 0 to 7, and the offset of the fault or, for 0, the stream's length.
+/// Verdict 0 to 7, but never 5; the offset of the fault or, for 0, the stream's length; and how many
+/// of the stream's blocks have unused septet bits, 0 unless the verdict is 0.
 #[derive(Clone, Copy, PartialEq, Eq, Debug, Default)]
 pub struct Validation {
     pub verdict: u8,
     pub offset: usize,
+    pub unused_septets: usize,
 }
 
 #[derive(Clone, Copy, PartialEq, Eq, Debug, Default)]
@@ -110,7 +112,8 @@ pub fn extract(bytes: [u8; 7], length: usize) -> Septets {
     answer
 }
 
-/// Moves the septet's bits back into the first `length` bytes; the answer's septet is 0.
+/// Moves the septet's bits back into the first `length` bytes; the answer's septet is 0. Bits that
+/// stand for no byte are ignored.
 pub fn inject(bytes: [u8; 7], length: usize, septet: u8) -> Septets {
     let refused = Septets {
         number: BAD_SEPTETS,
@@ -119,8 +122,7 @@ pub fn inject(bytes: [u8; 7], length: usize, septet: u8) -> Septets {
     let Some(used) = bytes.get(..length) else {
         return refused;
     };
-    // A septet below 2^length has no bit at or above the length; length is at most 7 here.
-    if used.iter().any(|&byte| byte >= 0x80) || septet >> length != 0 {
+    if used.iter().any(|&byte| byte >= 0x80) || septet >= 0x80 {
         return refused;
     }
     let mut answer = Septets {
@@ -148,6 +150,12 @@ fn put_top_bits(block: &[u8], septet: u8, out: &mut [u8]) {
     for (i, (&byte, slot)) in block.iter().zip(out).enumerate() {
         *slot = byte | ((septet >> i & 1) << 7);
     }
+}
+
+/// The septet of a block of `length` bytes has a bit set that stands for none of them.
+#[inline]
+fn has_unused_bits(septet: u8, length: usize) -> bool {
+    septet >> length != 0
 }
 
 // Reading streams
@@ -183,13 +191,22 @@ struct Stream {
     kind: Kind,
     length: usize,
     payload_length: usize,
+    /// Some septet has unused bits.
+    unused_bits: bool,
 }
 
-type Parsed<T> = Result<T, Validation>;
+/// What is wrong with a stream, and where.
+#[derive(Clone, Copy)]
+struct Fault {
+    verdict: u8,
+    offset: usize,
+}
+
+type Parsed<T> = Result<T, Fault>;
 
 #[inline]
 fn fault<T>(verdict: u8, offset: usize) -> Parsed<T> {
-    Err(Validation { verdict, offset })
+    Err(Fault { verdict, offset })
 }
 
 /// Bytes `from..to` are there and below 0x80.
@@ -210,13 +227,13 @@ fn seven_bit_fault(input: &[u8], from: usize) -> Parsed<()> {
     }
 }
 
-/// A frame of `N` payload bytes, the septet and the checksum, at offset `at`.
+/// A frame of `N` payload bytes, the septet and the checksum, at offset `at`; returns the septet.
 #[inline]
-fn parse_frame<const N: usize>(input: &[u8], at: usize) -> Parsed<()> {
+fn parse_frame<const N: usize>(input: &[u8], at: usize) -> Parsed<u8> {
     if let Some(frame) = input.get(at..at + N + 2) {
         let all = frame.iter().fold(0, |all, &byte| all | byte);
-        if all < 0x80 && frame[N] >> N == 0 && frame[N + 1] == checksum(&frame[..N + 1]) {
-            return Ok(());
+        if all < 0x80 && frame[N + 1] == checksum(&frame[..N + 1]) {
+            return Ok(frame[N]);
         }
     }
     frame_fault::<N>(input, at)
@@ -224,24 +241,25 @@ fn parse_frame<const N: usize>(input: &[u8], at: usize) -> Parsed<()> {
 
 /// Names the first fault of a frame known to be faulty.
 #[cold]
-fn frame_fault<const N: usize>(input: &[u8], at: usize) -> Parsed<()> {
-    seven_bit(input, at, at + N + 1)?;
-    if input[at + N] >> N != 0 {
-        return fault(5, at + N);
-    }
-    seven_bit(input, at + N + 1, at + N + 2)?;
+fn frame_fault<const N: usize>(input: &[u8], at: usize) -> Parsed<u8> {
+    seven_bit(input, at, at + N + 2)?;
     fault(6, at + N + 1)
 }
 
-/// Every frame, or the first fault among them.
+/// Every frame, or the first fault among them: where they end, and whether a septet has unused bits.
 #[inline]
-fn parse_frames<const N: usize>(input: &[u8], start: usize, frames: usize) -> Parsed<usize> {
+fn parse_frames<const N: usize>(
+    input: &[u8],
+    start: usize,
+    frames: usize,
+) -> Parsed<(usize, bool)> {
     let mut at = start;
+    let mut septets = 0;
     for _ in 0..frames {
-        parse_frame::<N>(input, at)?;
+        septets |= parse_frame::<N>(input, at)?;
         at += N + 2;
     }
-    Ok(at)
+    Ok((at, has_unused_bits(septets, N)))
 }
 
 /// The stream at the start of `input`, or its first fault.
@@ -255,25 +273,21 @@ fn parse(input: &[u8]) -> Parsed<Stream> {
     let Some(kind) = Kind::of(input[5]) else {
         return fault(3, 5);
     };
-    let (length, payload_length) = match kind {
+    let (payload_length, (length, unused_bits)) = match kind {
         Kind::Packet => {
             seven_bit(input, 6, 10)?;
             if input[9] != checksum(&input[1..9]) {
                 return fault(4, 9);
             }
             let frames = usize::from(input[8]);
-            (parse_frames::<4>(input, 10, frames)?, 4 * frames)
+            (4 * frames, parse_frames::<4>(input, 10, frames)?)
         }
         Kind::Datagram => {
-            seven_bit(input, 6, 15)?;
-            if input[14] >> 6 != 0 {
-                return fault(5, 14);
-            }
-            seven_bit(input, 15, 16)?;
+            seven_bit(input, 6, 16)?;
             if input[15] != checksum(&input[1..15]) {
                 return fault(4, 15);
             }
-            (16, 6)
+            (6, (16, has_unused_bits(input[14], 6)))
         }
         Kind::Telegram => {
             seven_bit(input, 6, 8)?;
@@ -281,13 +295,14 @@ fn parse(input: &[u8]) -> Parsed<Stream> {
                 return fault(4, 7);
             }
             let frames = telegram_frames(input[6]);
-            (parse_frames::<7>(input, 8, frames)?, 7 * frames)
+            (7 * frames, parse_frames::<7>(input, 8, frames)?)
         }
     };
     Ok(Stream {
         kind,
         length,
         payload_length,
+        unused_bits,
     })
 }
 
@@ -297,8 +312,30 @@ pub fn validate(input: &[u8]) -> Validation {
         Ok(stream) => Validation {
             verdict: 0,
             offset: stream.length,
+            unused_septets: unused_septets(input, stream),
         },
-        Err(fault) => fault,
+        Err(Fault { verdict, offset }) => Validation {
+            verdict,
+            offset,
+            unused_septets: 0,
+        },
+    }
+}
+
+/// How many blocks of the valid stream at the start of `input` have unused septet bits.
+fn unused_septets(input: &[u8], stream: Stream) -> usize {
+    if !stream.unused_bits {
+        return 0;
+    }
+    match stream.kind {
+        Kind::Packet => input[10..stream.length]
+            .chunks_exact(6)
+            .filter(|frame| has_unused_bits(frame[4], 4))
+            .count(),
+        // It is one block.
+        Kind::Datagram => 1,
+        // Its septets use all seven bits.
+        Kind::Telegram => 0,
     }
 }
 
@@ -418,6 +455,13 @@ pub fn encode(header: Header, payload: &[u8], out: &mut [u8]) -> Written {
     let Some(out) = out.get_mut(..length) else {
         return refused(NO_ROOM);
     };
+    write_stream(kind, header, payload, out);
+    Written { number: 0, length }
+}
+
+/// Writes the stream of a record that fits, to an output of just its length.
+#[inline]
+fn write_stream(kind: Kind, header: Header, payload: &[u8], out: &mut [u8]) {
     out[0] = SYNC;
     out[1..3].copy_from_slice(&header.destination.to_le_bytes());
     out[3..5].copy_from_slice(&header.source.to_le_bytes());
@@ -441,7 +485,6 @@ pub fn encode(header: Header, payload: &[u8], out: &mut [u8]) -> Written {
             encode_frames::<7>(payload, &mut out[8..]);
         }
     }
-    Written { number: 0, length }
 }
 
 #[inline]
@@ -453,33 +496,50 @@ fn encode_frames<const N: usize>(payload: &[u8], out: &mut [u8]) {
 }
 
 /// Writes the streams of all the input's records, with nothing between them.
-///
-/// A valid stream is already the one that `encode` gives for its record: every byte follows from
-/// the record, because a septet's unused bits are zero. So the streams are copied.
 pub fn normalize(input: &[u8], out: &mut [u8]) -> Written {
     // The result is never longer than the input; only a shorter output has to be measured first.
-    if out.len() < input.len() && streams(input).map(<[u8]>::len).sum::<usize>() > out.len() {
+    if out.len() < input.len() && total_length(input) > out.len() {
         return Written {
             number: NO_ROOM,
             length: 0,
         };
     }
     let mut length = 0;
-    for stream in streams(input) {
-        out[length..length + stream.len()].copy_from_slice(stream);
-        length += stream.len();
+    for (bytes, stream) in streams(input) {
+        rewrite(bytes, stream, &mut out[length..length + stream.length]);
+        length += stream.length;
     }
     Written { number: 0, length }
 }
 
 /// The valid streams of `input`, in order.
-fn streams(input: &[u8]) -> impl Iterator<Item = &[u8]> {
+fn streams(input: &[u8]) -> impl Iterator<Item = (&[u8], Stream)> {
     let mut start = 0;
     std::iter::from_fn(move || {
         let (place, stream) = find(input, start)?;
         start = place + stream.length;
-        Some(&input[place..start])
+        Some((&input[place..start], stream))
     })
+}
+
+/// The length of all valid streams of `input`; written again, each keeps its own.
+fn total_length(input: &[u8]) -> usize {
+    streams(input).map(|(_, stream)| stream.length).sum()
+}
+
+/// Writes the stream that `encode` gives for the record of a valid one.
+///
+/// Without unused septet bits every byte of a valid stream follows from its record: it is copied.
+#[inline]
+fn rewrite(bytes: &[u8], stream: Stream, out: &mut [u8]) {
+    if !stream.unused_bits {
+        out.copy_from_slice(bytes);
+        return;
+    }
+    let mut payload = [0; MAX_PACKET_PAYLOAD];
+    let payload = &mut payload[..stream.payload_length];
+    decode_payload(bytes, stream.kind, payload);
+    write_stream(stream.kind, header_of(bytes, stream.kind), payload, out);
 }
 
 // What payloads hold

@@ -18,6 +18,15 @@ const T3: [u8; 17] = [
     0x26,
 ];
 
+/// A packet of three frames with the septets 05, 09 and 0A, and bits 5 and 6 set in the first, bit 4 in
+/// the last.
+const P3: [u8; 28] = [
+    0xAA, 0x11, 0x44, 0x10, 0x66, 0x10, 0x00, 0x02, 0x03, 0x1F, // header
+    0x68, 0x03, 0x74, 0x01, 0x65, 0x3A, // E8 03 F4 01
+    0x07, 0x04, 0x0F, 0x7F, 0x09, 0x5D, // 87 04 0F FF
+    0x01, 0x02, 0x03, 0x04, 0x1A, 0x5B, // 01 82 03 84
+];
+
 const BLOCK: Header = Header {
     version: 0x10,
     destination: 0x0015,
@@ -37,7 +46,24 @@ fn block_payload() -> [u8; 48] {
 }
 
 fn verdict(verdict: u8, offset: usize) -> Validation {
-    Validation { verdict, offset }
+    Validation {
+        verdict,
+        offset,
+        unused_septets: 0,
+    }
+}
+
+fn whole(length: usize, unused_septets: usize) -> Validation {
+    Validation {
+        unused_septets,
+        ..verdict(0, length)
+    }
+}
+
+/// A stream with these bytes in place of its last two, a septet and its checksum.
+fn ending<const N: usize>(mut stream: [u8; N], last: [u8; 2]) -> [u8; N] {
+    stream[N - 2..].copy_from_slice(&last);
+    stream
 }
 
 fn packet(destination: u16, payload: usize) -> Written {
@@ -66,7 +92,7 @@ fn round_trip(stream: &[u8]) -> (Header, Vec<u8>) {
 #[test]
 fn samples_are_valid() {
     for stream in [&P1[..], &D1, &T1, &T2, &T3] {
-        assert_eq!(validate(stream), verdict(0, stream.len()));
+        assert_eq!(validate(stream), whole(stream.len(), 0));
         round_trip(stream);
     }
     let (header, payload) = round_trip(&P1);
@@ -114,12 +140,6 @@ fn faults() {
     wrong[7] = 0x77;
     assert_eq!(validate(&wrong), verdict(4, 7));
     let mut wrong = P1;
-    wrong[14] = 0x10;
-    wrong[15] = 0x55;
-    assert_eq!(validate(&wrong), verdict(5, 14));
-    // The septet counts even when the frame's checksum is missing.
-    assert_eq!(validate(&wrong[..15]), verdict(5, 14));
-    let mut wrong = P1;
     wrong[15] = 0x64;
     assert_eq!(validate(&wrong), verdict(6, 15));
     let mut wrong = P1;
@@ -130,8 +150,47 @@ fn faults() {
     let mut wrong = D1;
     wrong[15] = 0x15;
     assert_eq!(validate(&wrong), verdict(4, 15));
-    wrong[14] = 0x40;
-    assert_eq!(validate(&wrong), verdict(5, 14));
+}
+
+#[test]
+fn unused_septet_bits() {
+    let packet = ending(P1, [0x10, 0x55]);
+    let datagram = ending(D1, [0x40, 0x54]);
+    assert_eq!(validate(&packet), whole(16, 1));
+    assert_eq!(validate(&ending(P1, [0x70, 0x75])), whole(16, 1));
+    assert_eq!(validate(&datagram), whole(16, 1));
+    assert_eq!(validate(&P3), whole(28, 2));
+    // A telegram's septet has no unused bits; the top bit is never one.
+    let telegram = ending(T2, [0x7F, 0x0C]);
+    assert_eq!(validate(&telegram), whole(17, 0));
+    assert_eq!(validate(&ending(P1, [0x90, 0x55])), verdict(2, 14));
+    // Checksums cover the bytes as they came.
+    assert_eq!(validate(&ending(P1, [0x10, 0x65])), verdict(6, 15));
+    assert_eq!(validate(&ending(D1, [0x40, 0x14])), verdict(4, 15));
+    // Only a whole stream's are counted.
+    assert_eq!(validate(&packet[..15]), verdict(7, 15));
+    assert_eq!(validate(&ending(P3, [0x1A, 0x5C])), verdict(6, 27));
+
+    let mut payload = [0; 12];
+    let found = next(&P3, 0, &mut payload);
+    assert_eq!((found.length, found.payload_length), (28, 12));
+    let expected = [
+        0xE8, 0x03, 0xF4, 0x01, 0x87, 0x04, 0x0F, 0xFF, 0x01, 0x82, 0x03, 0x84,
+    ];
+    assert_eq!(payload, expected);
+    let mut written = ending(P3, [0x0A, 0x6B]);
+    written[14..16].copy_from_slice(&[0x05, 0x1A]);
+    round_trip(&written);
+
+    let input = [&packet[..], &P1, &[0xAA], &datagram, &P3, &telegram].concat();
+    let expected = [&P1[..], &P1, &D1, &written, &telegram].concat();
+    let mut out = vec![0xEE; 94];
+    assert_eq!(normalize(&input, &mut out[..92]).number, 5);
+    assert_eq!(out, [0xEE; 94]);
+    assert_eq!(normalize(&input, &mut out).length, 93);
+    assert_eq!(out, [&expected[..], &[0xEE]].concat());
+    assert_eq!(normalize(&expected, &mut out[..93]).length, 93);
+    assert_eq!(out[..93], expected);
 }
 
 #[test]
@@ -259,10 +318,17 @@ fn septets() {
     assert_eq!(extract(block, usize::MAX), refused);
     assert_eq!(inject([0; 7], 8, 0), refused);
     assert_eq!(inject(block, 4, 0), refused);
-    assert_eq!(inject([0; 7], 4, 0x10), refused);
     assert_eq!(inject([0; 7], 7, 0x80), refused);
+    assert_eq!(inject([0; 7], 0, 0x80), refused);
     assert_eq!(inject([0; 7], 0, 0).number, 0);
     assert_eq!(inject([0x99; 7], 0, 0).number, 0);
+    // Bits at or above the length are ignored.
+    assert_eq!(inject(moved.bytes, 4, 0x75), back);
+    assert_eq!(inject([0; 7], 4, 0x10).bytes, [0; 7]);
+    let six = inject([1, 2, 3, 4, 5, 6, 0x99], 6, 0x7F);
+    assert_eq!(six.bytes, [0x81, 0x82, 0x83, 0x84, 0x85, 0x86, 0]);
+    assert_eq!((six.number, six.length, six.septet), (0, 6, 0));
+    assert_eq!(inject([0x99; 7], 0, 0x7F).bytes, [0; 7]);
 }
 
 #[test]
@@ -398,12 +464,12 @@ fn next_all(input: &[u8]) -> Vec<(usize, Header, Vec<u8>)> {
     }
 }
 
-/// Every sample and a packet without a frame: whole, with its last byte twice, cut off before it,
-/// damaged, and with a high byte in it.
+/// Every sample, a packet without a frame and one with unused septet bits: whole, with its last byte
+/// twice, cut off before it, damaged, and with a high byte in it.
 fn samples_and_damage() -> Vec<u8> {
     let short = [0xAA, 0x11, 0x44, 0x10, 0x66, 0x10, 0x00, 0x02, 0x00, 0x22];
     let mut input = vec![0x00, 0xAA];
-    for stream in [&short[..], &P1, &D1, &T1, &T2, &T3] {
+    for stream in [&short[..], &P1, &D1, &T1, &T2, &T3, &P3] {
         let last = stream.len() - 1;
         input.extend(stream);
         input.push(stream[last]);
@@ -423,7 +489,7 @@ fn samples_and_damage() -> Vec<u8> {
 fn receiving_in_chunks_of_every_length() {
     let input = samples_and_damage();
     let expected = next_all(&input);
-    assert_eq!(expected.len(), 12);
+    assert_eq!(expected.len(), 14);
     for length in 1..=input.len() {
         let received = receive_all(&mut Receiver::new(), input.chunks(length));
         assert_eq!(received, expected, "in chunks of {length}");
