@@ -4,12 +4,12 @@ use crate::check::{hex, Checked, Checker};
 use crate::library;
 use crate::naive::{self, Delivered};
 use crate::recordings::{self, BLOCK, MAX_PAYLOAD, MAX_STREAM};
-use reference::Header;
+use reference::{Header, Validation};
 
 pub type Class = (&'static str, fn(&mut Checker) -> Checked<()>);
 
 /// The classes of random cases.
-pub const CLASSES: [Class; 20] = [
+pub const CLASSES: [Class; 21] = [
     ("valid", |c| c.random_recording(recordings::recording)),
     ("one bit", |c| c.random_recording(recordings::one_bit)),
     ("one byte", |c| c.random_recording(recordings::one_byte)),
@@ -19,9 +19,10 @@ pub const CLASSES: [Class; 20] = [
     ("wrong fields", |c| {
         c.random_recording(recordings::wrong_fields)
     }),
-    ("septet bits", |c| {
-        c.random_recording(recordings::septet_bits)
+    ("unused bits", |c| {
+        c.random_recording(recordings::unused_bits)
     }),
+    ("uncovered bits", Checker::random_uncovered_bits),
     ("hostile", |c| c.random_recording(recordings::hostile)),
     ("random bytes", |c| c.random_recording(recordings::random)),
     ("encode", Checker::random_encode),
@@ -36,14 +37,74 @@ pub const CLASSES: [Class; 20] = [
     ("receive: wrapper", Checker::receive_wrapped),
 ];
 
+/// The records of random recordings by how many of their blocks have unused septet bits; those of a
+/// telegram have none. Where one stays 0 the run has shown less than it claims.
+pub const UNUSED: [&str; 7] = [
+    "packets, unused: 0",
+    "packets, unused: 1",
+    "packets, some unused",
+    "packets, all unused",
+    "datagrams, unused: 0",
+    "datagrams, unused: 1",
+    "telegrams",
+];
+
+/// The one of these that a whole stream belongs to.
+fn unused_class(stream: &[u8]) -> &'static str {
+    let unused = naive::unused_septets(stream);
+    UNUSED[match (stream[5], unused) {
+        (0x10, 0) => 0,
+        (0x10, 1) => 1,
+        (0x10, _) if unused < naive::block_count(stream) => 2,
+        (0x10, _) => 3,
+        (0x20, 0) => 4,
+        (0x20, _) => 5,
+        _ => 6,
+    }]
+}
+
 impl Checker {
     fn random_recording(&mut self, make: fn(&mut crate::rng::Rng) -> Vec<u8>) -> Checked<()> {
         let input = make(&mut self.rng);
-        self.recording(&input)
+        for record in self.recording(&input)? {
+            let stream = &input[record.place..][..record.length];
+            self.count(unused_class(stream));
+        }
+        Ok(())
     }
 
-    /// Everything that reads a recording, and what must hold of the answers together.
-    pub fn recording(&mut self, input: &[u8]) -> Checked<()> {
+    /// A checksum that leaves unused septet bits out is wrong, though what is read would be the same.
+    fn random_uncovered_bits(&mut self) -> Checked<()> {
+        let (stream, septet) = recordings::uncovered_bits(&mut self.rng);
+        let verdict = if stream[5] == 0x20 { 4 } else { 6 };
+        self.validated(&stream, verdict, septet + 1, 0)?;
+        let input = recordings::surrounded(&mut self.rng, stream);
+        self.recording(&input)?;
+        Ok(())
+    }
+
+    /// `validate` gives just these.
+    fn validated(
+        &mut self,
+        input: &[u8],
+        verdict: u8,
+        offset: usize,
+        unused_septets: usize,
+    ) -> Checked<()> {
+        let answer = self.validate(input)?;
+        let expected = Validation {
+            verdict,
+            offset,
+            unused_septets,
+        };
+        self.holds(answer == expected, || {
+            let input = hex(input);
+            format!("vbus_validate of {input} gives {expected:?}; it gave {answer:?}")
+        })
+    }
+
+    /// Everything that reads a recording, and what must hold of the answers together. Gives the records.
+    pub fn recording(&mut self, input: &[u8]) -> Checked<Vec<Delivered>> {
         let before = input.to_vec();
         self.validate(input)?;
         let from = self.rng.below(input.len() + 1);
@@ -75,6 +136,7 @@ impl Checker {
             self.holds(same, || {
                 format!("the normalized recording's records: {}", hex(input))
             })?;
+            self.validated(&normal[at..], 0, found.length, 0)?;
             at += found.length;
         }
         self.holds(at == normal.len(), || {
@@ -86,7 +148,8 @@ impl Checker {
         })?;
         self.holds(before == input, || {
             format!("the input is left alone: {}", hex(&before))
-        })
+        })?;
+        Ok(records)
     }
 
     /// What was found and written, against the records by the rule itself.
@@ -154,8 +217,11 @@ impl Checker {
             }
             let (_, stream) = self.encode(found.header, &payload, found.length)?;
             let end = found.place + found.length;
-            self.holds(stream == input[found.place..end], || {
-                format!("encoding gives the stream found: {}", hex(input))
+            let read = &input[found.place..end];
+            let clean = self.validate(read)?.unused_septets == 0;
+            self.holds((stream == read) == clean, || {
+                let read = hex(read);
+                format!("encoding gives {read} again exactly if it has no unused septet bits")
             })?;
             let (back, copy) = self.next(&stream, 0, MAX_PAYLOAD)?;
             let same = back.found
@@ -312,11 +378,7 @@ impl Checker {
         if self.rng.once_in(2) {
             bytes.iter_mut().skip(length).for_each(|byte| *byte |= 0x80);
         }
-        let bits = if self.rng.once_in(3) {
-            8
-        } else {
-            length.min(7)
-        };
+        let bits = self.rng.pick(&[8, 7, length.min(7)]);
         let septet = (self.rng.next() & ((1 << bits) - 1)) as u8;
         self.septets(bytes, length, septet)
     }
@@ -353,6 +415,8 @@ impl Checker {
         self.every_bit()?;
         self.every_cut()?;
         self.every_septet()?;
+        self.every_unused_septet()?;
+        self.every_uncovered_septet()?;
         self.every_section()?;
         self.every_block_header()?;
         self.every_temperature()?;
@@ -459,6 +523,7 @@ impl Checker {
             let payload = self.rng.bytes(length);
             let stream = recordings::encoded(header, &payload);
             input.extend(&stream[..stream.len() - 1]);
+            input.extend(recordings::with_unused_bits(&stream, |_| true));
             input.extend(stream);
             input.push(0xAA);
         }
@@ -555,6 +620,74 @@ impl Checker {
         Ok(())
     }
 
+    /// Packets of every size with unused septet bits in the first frame, the last, every second, all
+    /// and none; and every septet of each kind's block, as of a stream with one block.
+    fn every_unused_septet(&mut self) -> Checked<()> {
+        for frames in 0..=127 {
+            let packet = self.packet_of(frames);
+            let last = frames.saturating_sub(1);
+            let patterns: [(usize, &dyn Fn(usize) -> bool); 5] = [
+                (frames.min(1), &|i| i == 0),
+                (frames.min(1), &|i| i == last),
+                (frames.div_ceil(2), &|i| i % 2 == 0),
+                (frames, &|_| true),
+                (0, &|_| false),
+            ];
+            for (count, chosen) in patterns {
+                let stream = recordings::with_unused_bits(&packet, chosen);
+                self.validated(&stream, 0, stream.len(), count)?;
+                self.recording(&stream)?;
+            }
+        }
+        for (version, command, length) in [(0x10, 0x0100, 4), (0x20, 0x0100, 6), (0x30, 0x25, 7)] {
+            for septet in 0..=0x7F {
+                let mut stream = self.stream_of(version, command, length);
+                let at = stream.len() - 2;
+                stream[at] = septet;
+                recordings::fix_checksums(&mut stream);
+                let unused = usize::from(septet >> length != 0);
+                self.validated(&stream, 0, stream.len(), unused)?;
+                self.recording(&stream)?;
+            }
+        }
+        Ok(())
+    }
+
+    /// An unused septet bit of each frame in turn is changed and its checksum kept, in packets without
+    /// unused bits and with all of them.
+    fn every_uncovered_septet(&mut self) -> Checked<()> {
+        for frames in [1, 2, 3, 10, 127] {
+            let packet = self.packet_of(frames);
+            for all in [false, true] {
+                let stream = recordings::with_unused_bits(&packet, |_| all);
+                let (septets, _) = recordings::septets(&stream);
+                for septet in septets {
+                    let mut wrong = stream.clone();
+                    wrong[septet] ^= self.rng.pick(&[0x10, 0x20, 0x40]);
+                    self.validated(&wrong, 6, septet + 1, 0)?;
+                    self.next(&wrong, 0, MAX_PAYLOAD)?;
+                }
+            }
+        }
+        Ok(())
+    }
+
+    fn packet_of(&mut self, frames: usize) -> Vec<u8> {
+        self.stream_of(0x10, 0x0300, 4 * frames)
+    }
+
+    /// A stream with this payload's length, without unused septet bits.
+    fn stream_of(&mut self, version: u8, command: u16, length: usize) -> Vec<u8> {
+        let header = Header {
+            version,
+            destination: 0x0020,
+            source: 0x7E21,
+            command,
+        };
+        let payload = self.rng.bytes(length);
+        recordings::encoded(header, &payload)
+    }
+
     /// Every section type, frame count and number of sections.
     fn every_section(&mut self) -> Checked<()> {
         self.sections(BLOCK, &[])?;
@@ -624,6 +757,7 @@ impl Checker {
         let last = packet.len() - 1;
         packet[last] ^= 1;
         let valid = recordings::stream(&mut self.rng);
+        let unused = recordings::with_unused_bits(&self.packet_of(127), |_| true);
         for part in [
             vec![0xAA],
             vec![0x00],
@@ -632,6 +766,7 @@ impl Checker {
             recordings::interleaved(&valid),
             packet,
             valid,
+            unused,
         ] {
             let input: Vec<u8> = part.iter().copied().cycle().take(LENGTH).collect();
             self.validate(&input)?;

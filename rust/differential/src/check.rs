@@ -253,9 +253,10 @@ impl Checker {
         }
         if put.number == 0 {
             let back = library::extract(put.bytes, length);
-            let same = back.number == 0
-                && back.bytes[..length] == bytes[..length]
-                && back.septet == septet;
+            // Unused bits, those at or above the length, are gone.
+            let used = septet % (1 << length);
+            let same =
+                back.number == 0 && back.bytes[..length] == bytes[..length] && back.septet == used;
             self.holds(same, || {
                 format!("vbus_extract after vbus_inject of {block}, length {length}, {septet}")
             })?;
@@ -287,11 +288,28 @@ impl Checker {
             || reference::validate(input),
         )?;
         self.verdicts[usize::from(answer.verdict)] += 1;
+        let rule =
+            naive::whole_stream(input).map(|stream| (stream.len(), naive::unused_septets(stream)));
+        let whole = (answer.verdict == 0).then_some((answer.offset, answer.unused_septets));
+        self.holds(whole == rule, || {
+            let input = hex(input);
+            format!(
+                "the length and the unused septets of {input} are {rule:?}; given were {whole:?}"
+            )
+        })?;
         let wrapped = match vbus::validate(input) {
-            Ok(length) => (0, length),
-            Err(fault) => (fault.verdict.number(), fault.offset),
+            Ok(whole) => Validation {
+                verdict: 0,
+                offset: whole.length,
+                unused_septets: whole.unused_septets,
+            },
+            Err(fault) => Validation {
+                verdict: fault.verdict.number(),
+                offset: fault.offset,
+                unused_septets: 0,
+            },
         };
-        self.holds(wrapped == (answer.verdict, answer.offset), || {
+        self.holds(wrapped == answer, || {
             format!("vbus::validate of {}", hex(input))
         })?;
         Ok(answer)

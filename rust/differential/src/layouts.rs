@@ -111,8 +111,14 @@ impl Checker {
             size_of::<vbus_sys::Receiver>(),
             size_of::<vbus_sys::Received>(),
         ];
-        let expected = [8, 16, 40, 16, 16, 24, 32, 8, 48];
+        let expected = [8, 24, 40, 16, 16, 24, 32, 8, 48];
         self.expect("sizes on x86-64", sizes, expected)?;
+        let offsets = [
+            offset_of!(vbus_sys::Validation, verdict),
+            offset_of!(vbus_sys::Validation, offset),
+            offset_of!(vbus_sys::Validation, unused_septets),
+        ];
+        self.expect("offsets of Validation on x86-64", offsets, [0, 8, 16])?;
         let offsets = [
             offset_of!(vbus_sys::Found, found),
             offset_of!(vbus_sys::Found, place),
@@ -206,11 +212,22 @@ impl Checker {
     fn small_answers(&mut self) -> Checked<()> {
         let mut wrong = STREAM;
         wrong[21] ^= 1;
-        let verdict = Validation {
+        let fault = Validation {
             verdict: 6,
             offset: 21,
+            unused_septets: 0,
         };
-        self.expect("vbus_validate", library::validate(&wrong), verdict)?;
+        self.expect("vbus_validate", library::validate(&wrong), fault)?;
+        // Both septets with unused bits, 09 as 19 and 02 as 62.
+        let mut unused = STREAM;
+        unused[14..16].copy_from_slice(&[0x19, 0x60]);
+        unused[20..22].copy_from_slice(&[0x62, 0x07]);
+        let whole = Validation {
+            verdict: 0,
+            offset: 22,
+            unused_septets: 2,
+        };
+        self.expect("vbus_validate", library::validate(&unused), whole)?;
         let value = library::value(&[0x11, 0x22, 0x84, 0x73, 0x62, 0xF1]);
         self.expect("vbus_value", value, -0x0E9D_8C7C)?;
         let temperature = library::temperature(&[0x84, 0xF1]);

@@ -40,7 +40,7 @@ pub fn inject(bytes: [u8; 7], length: usize, septet: u8) -> Septets {
 pub fn validate(input: &[u8]) -> Validation {
     // SAFETY: pointer and count are those of a slice.
     let answer = unsafe { vbus_sys::vbus_validate(input.as_ptr(), input.len()) };
-    as_reference!(answer => Validation { verdict, offset })
+    as_reference!(answer => Validation { verdict, offset, unused_septets })
 }
 
 pub fn next(input: &[u8], start: usize, payload: &mut [u8]) -> Found {

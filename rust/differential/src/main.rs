@@ -162,8 +162,9 @@ fn compare(
     complete(checker).map_err(|failure| ("counts", failure))
 }
 
-/// Every refusal and every verdict occurred, and the naive reading and every class of receivers
-/// found records, or the run has shown less than it claims.
+/// Every refusal and every verdict occurred, the naive reading and every class of receivers found
+/// records, and these had unused septet bits in none, one, some and all of their blocks, or the run
+/// has shown less than it claims.
 fn complete(checker: &mut Checker) -> Checked<()> {
     let errors = Error::ALL.iter().map(|error| error.number() as usize);
     for number in errors.chain([0]) {
@@ -176,7 +177,8 @@ fn complete(checker: &mut Checker) -> Checked<()> {
         checker.holds(count > 0, || format!("the verdict V{number} occurs"))?;
     }
     let naive = ["naive recordings", "naive records"];
-    for class in naive.into_iter().chain(receiver::RECORDS) {
+    let classes = naive.into_iter().chain(receiver::RECORDS);
+    for class in classes.chain(cases::UNUSED) {
         let some = checker.cases.get(class).is_some_and(|count| *count > 0);
         checker.holds(some, || format!("there are {class}"))?;
     }

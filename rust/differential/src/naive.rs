@@ -1,10 +1,11 @@
 //! A recording's records by the rule itself: every place is tried, and every record is written
-//! anew. The reference, like the library, goes on at a fault and copies whole streams; here neither
-//! shortcut is taken. A checksum and a receiver by their rules, byte after byte, the receiver in any
-//! state.
+//! anew. The reference, like the library, goes on at a fault and copies whole streams that have no
+//! unused septet bits; here neither shortcut is taken. A checksum and a receiver by their rules, byte
+//! after byte, the receiver in any state.
 
 use crate::recordings::{self, MAX_PAYLOAD, MAX_STREAM};
 use reference::{Header, Received};
+use std::slice::Chunks;
 
 /// The longest recording that is read this way; the work grows with the square of its length.
 pub const MOST: usize = 600;
@@ -26,29 +27,50 @@ pub struct Delivered {
 
 /// The records at all places from which the input begins with a whole stream.
 pub fn records(input: &[u8]) -> Vec<Delivered> {
-    let mut records = Vec::new();
-    for place in 0..input.len() {
-        let rest = &input[place..];
-        let answer = reference::validate(rest);
-        if answer.verdict == 0 {
-            records.push(read(place, &rest[..answer.offset]));
-        }
-    }
-    records
+    (0..input.len())
+        .filter_map(|place| Some(read(place, whole_stream(&input[place..])?)))
+        .collect()
+}
+
+/// The whole stream that the input begins with.
+pub fn whole_stream(input: &[u8]) -> Option<&[u8]> {
+    let stream = input.get(..announced(input))?;
+    whole(stream).then_some(stream)
+}
+
+/// The blocks of a whole stream, each of so many bytes, their septet and a checksum. A datagram is
+/// one block.
+fn blocks(stream: &[u8]) -> (usize, Chunks<'_, u8>) {
+    let (first, width) = match stream[5] {
+        0x10 => (10, 4),
+        0x20 => (8, 6),
+        _ => (8, 7),
+    };
+    (width, stream[first..].chunks(width + 2))
+}
+
+/// How many blocks a whole stream has.
+pub fn block_count(stream: &[u8]) -> usize {
+    blocks(stream).1.count()
+}
+
+/// How many blocks of a whole stream have a septet bit set that stands for none of their bytes.
+pub fn unused_septets(stream: &[u8]) -> usize {
+    let (width, blocks) = blocks(stream);
+    blocks.filter(|block| block[width] >= 1 << width).count()
 }
 
 /// The record of a whole stream.
 fn read(place: usize, stream: &[u8]) -> Delivered {
     let word = |at: usize| u16::from(stream[at]) + 256 * u16::from(stream[at + 1]);
     let version = stream[5];
-    // The blocks are `width` bytes, their septet and a checksum each. A datagram is one block.
-    let (command, first, width) = match version {
-        0x10 => (word(6), 10, 4),
-        0x20 => (word(6), 8, 6),
-        _ => (u16::from(stream[6]), 8, 7),
+    let command = match version {
+        0x10 | 0x20 => word(6),
+        _ => u16::from(stream[6]),
     };
+    let (width, blocks) = blocks(stream);
     let mut payload = Vec::new();
-    for block in stream[first..].chunks(width + 2) {
+    for block in blocks {
         for i in 0..width {
             let top = block[width] >> i & 1;
             payload.push(block[i] + 128 * top);
@@ -140,7 +162,7 @@ fn whole(stream: &[u8]) -> bool {
     let low = stream[1..].iter().all(|&byte| byte < 0x80);
     low && match stream[5] {
         0x10 => summed(&stream[1..10]) && framed(&stream[10..], 4),
-        0x20 => summed(&stream[1..16]) && stream[14] < 1 << 6,
+        0x20 => summed(&stream[1..16]),
         0x30 | 0x31 => summed(&stream[1..8]) && framed(&stream[8..], 7),
         _ => false,
     }
@@ -148,8 +170,7 @@ fn whole(stream: &[u8]) -> bool {
 
 /// Whether the bytes are frames of `width` payload bytes, their septet and the checksum.
 fn framed(bytes: &[u8], width: usize) -> bool {
-    let mut frames = bytes.chunks(width + 2);
-    frames.all(|frame| summed(frame) && frame[width] >> width == 0)
+    bytes.chunks(width + 2).all(summed)
 }
 
 /// Whether the last byte is the checksum of those before it.

@@ -3,7 +3,7 @@
 use crate::cases::wrapper;
 use crate::check::{hex, Checked, Checker, State};
 use crate::library;
-use crate::naive::Delivered;
+use crate::naive::{self, Delivered};
 use crate::recordings::{self, MAX_PAYLOAD, MAX_STREAM};
 use crate::rng::Rng;
 use reference::{Header, Received};
@@ -16,12 +16,14 @@ const RESETS: &str = "records: resets";
 const HOSTILE: &str = "records: hostile";
 const WRAPPER: &str = "records: wrapper";
 const FIXED: &str = "records: fixed";
+const UNUSED: &str = "records: unused bits";
 
-/// The counts of records that each class delivers. Where one stays 0 the class has shown nothing.
-pub const RECORDS: [&str; 6] = [CUT, ANY_STATE, RESETS, HOSTILE, WRAPPER, FIXED];
+/// The counts of records that each class delivers, and of those of random recordings whose streams have
+/// unused septet bits. Where one stays 0 the class has shown nothing.
+pub const RECORDS: [&str; 7] = [CUT, ANY_STATE, RESETS, HOSTILE, WRAPPER, FIXED, UNUSED];
 
 /// Every kind of recording.
-const RECORDINGS: [fn(&mut Rng) -> Vec<u8>; 10] = [
+const RECORDINGS: [fn(&mut Rng) -> Vec<u8>; 11] = [
     recordings::recording,
     recordings::one_bit,
     recordings::one_byte,
@@ -29,7 +31,8 @@ const RECORDINGS: [fn(&mut Rng) -> Vec<u8>; 10] = [
     recordings::spliced,
     recordings::repeated,
     recordings::wrong_fields,
-    recordings::septet_bits,
+    recordings::unused_bits,
+    |rng| recordings::uncovered_bits(rng).0,
     recordings::hostile,
     recordings::random,
 ];
@@ -165,6 +168,13 @@ impl Checker {
             format!("the records of {input} are {expected:X?}; received were {records:X?}")
         })?;
         self.delivered(class, expected.len());
+        if class != FIXED {
+            let unused = expected.iter().filter(|record| {
+                let stream = &input[record.place..][..record.length];
+                naive::unused_septets(stream) > 0
+            });
+            self.delivered(UNUSED, unused.count());
+        }
         Ok(())
     }
 
@@ -321,7 +331,8 @@ impl Checker {
                 command,
             };
             let payload = self.rng.bytes(length);
-            input.extend(recordings::encoded(header, &payload));
+            let stream = recordings::encoded(header, &payload);
+            input.extend(recordings::with_unused_bits(&stream, |_| true));
         }
         for first in 0..=input.len() {
             for second in first..=input.len() {

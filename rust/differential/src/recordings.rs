@@ -2,6 +2,8 @@
 
 use crate::rng::Rng;
 use reference::Header;
+use std::iter::StepBy;
+use std::ops::Range;
 
 pub const MAX_PAYLOAD: usize = 508;
 pub const MAX_STREAM: usize = 772;
@@ -59,12 +61,14 @@ pub fn encoded(header: Header, payload: &[u8]) -> Vec<u8> {
     out[..written.length].to_vec()
 }
 
+/// A stream of any kind and size; one in three has unused septet bits, if its kind has any.
 pub fn stream(rng: &mut Rng) -> Vec<u8> {
     let (header, payload) = record(rng);
-    encoded(header, &payload)
+    let stream = encoded(header, &payload);
+    one_in_three_unused(rng, stream)
 }
 
-/// A packet with 127 frames.
+/// A packet with 127 frames; one in three has unused septet bits.
 pub fn longest(rng: &mut Rng) -> Vec<u8> {
     let header = Header {
         version: 0x10,
@@ -73,7 +77,16 @@ pub fn longest(rng: &mut Rng) -> Vec<u8> {
         command: seven_bit_word(rng),
     };
     let payload = payload(rng, MAX_PAYLOAD);
-    encoded(header, &payload)
+    let stream = encoded(header, &payload);
+    one_in_three_unused(rng, stream)
+}
+
+fn one_in_three_unused(rng: &mut Rng, mut stream: Vec<u8>) -> Vec<u8> {
+    if rng.once_in(3) {
+        set_unused_bits(rng, &mut stream);
+        fix_checksums(&mut stream);
+    }
+    stream
 }
 
 /// Streams one after the other, sometimes with bytes between.
@@ -175,8 +188,13 @@ fn layout(version: u8) -> Option<(usize, usize, usize)> {
     }
 }
 
+/// Puts right checksums wherever a stream of its version has them.
+pub fn fix_checksums(stream: &mut [u8]) {
+    fix_checksums_as(stream, stream[5]);
+}
+
 /// Puts right checksums wherever a stream of this version has them.
-fn fix_checksums(stream: &mut [u8], version: u8) {
+fn fix_checksums_as(stream: &mut [u8], version: u8) {
     let Some((header, first, frame)) = layout(version) else {
         return;
     };
@@ -222,7 +240,7 @@ pub fn wrong_fields(rng: &mut Rng) -> Vec<u8> {
         }
         // Checksums that leave the septet out.
         _ => {
-            fix_checksums(&mut bytes, version);
+            fix_checksums_as(&mut bytes, version);
             if let Some((_, first, frame)) = layout(version).filter(|&(_, _, frame)| frame > 0) {
                 for frame in bytes[first..].chunks_exact_mut(frame) {
                     let last = frame.len() - 1;
@@ -232,34 +250,78 @@ pub fn wrong_fields(rng: &mut Rng) -> Vec<u8> {
             fix_as = 0;
         }
     }
-    fix_checksums(&mut bytes, fix_as);
+    fix_checksums_as(&mut bytes, fix_as);
     surrounded(rng, bytes)
 }
 
-/// Septet bits that must be zero, under right checksums.
-pub fn septet_bits(rng: &mut Rng) -> Vec<u8> {
-    let mut bytes = stream(rng);
-    let version = bytes[5];
-    match version {
-        0x10 if bytes.len() > 10 => {
-            let frames = (bytes.len() - 10) / 6;
-            let at = 10 + 6 * rng.below(frames) + 4;
-            bytes[at] |= (1 + rng.byte() % 7) << 4;
+/// Where a stream's septets stand, and which of their bits stand for no byte.
+pub fn septets(stream: &[u8]) -> (StepBy<Range<usize>>, u8) {
+    let (first, step, unused) = match stream[5] {
+        0x10 => (14, 6, 0x70),
+        0x20 => (14, 16, 0x40),
+        _ => (15, 9, 0x00),
+    };
+    ((first..stream.len()).step_by(step), unused)
+}
+
+/// Sets unused septet bits in one, some or all blocks, if their septets have any. The checksums stay
+/// those of the septets without these bits.
+fn set_unused_bits(rng: &mut Rng, stream: &mut [u8]) {
+    let (septets, unused) = septets(stream);
+    let one = rng.below(septets.len().max(1));
+    let others = rng.below(3);
+    for (i, at) in septets.enumerate() {
+        let chosen = i == one
+            || match others {
+                0 => false,
+                1 => rng.once_in(2),
+                _ => true,
+            };
+        if chosen {
+            stream[at] |= match rng.byte() & unused {
+                0 => unused,
+                some => some,
+            };
         }
-        0x20 => bytes[14] |= 0x40,
-        // A telegram's septet uses seven bits; only the eighth is left.
-        0x30 | 0x31 if bytes.len() > 8 => {
-            let frames = (bytes.len() - 8) / 9;
-            bytes[8 + 9 * rng.below(frames) + 7] |= 0x80;
-        }
-        _ => {}
     }
-    fix_checksums(&mut bytes, version);
+}
+
+/// The stream with unused bits set in the septets that `chosen` names by their number, under right
+/// checksums.
+pub fn with_unused_bits(stream: &[u8], chosen: impl Fn(usize) -> bool) -> Vec<u8> {
+    let mut bytes = stream.to_vec();
+    let (septets, unused) = septets(stream);
+    for (_, at) in septets.enumerate().filter(|&(i, _)| chosen(i)) {
+        bytes[at] |= unused;
+    }
+    fix_checksums(&mut bytes);
+    bytes
+}
+
+/// Unused septet bits under right checksums.
+pub fn unused_bits(rng: &mut Rng) -> Vec<u8> {
+    let mut bytes = stream(rng);
+    set_unused_bits(rng, &mut bytes);
+    fix_checksums(&mut bytes);
     surrounded(rng, bytes)
+}
+
+/// A packet or datagram with unused septet bits under the checksums of its septets without them, and
+/// the offset of the first such septet.
+pub fn uncovered_bits(rng: &mut Rng) -> (Vec<u8>, usize) {
+    loop {
+        let (header, payload) = record(rng);
+        let mut bytes = encoded(header, &payload);
+        set_unused_bits(rng, &mut bytes);
+        let (mut septets, unused) = septets(&bytes);
+        if let Some(at) = septets.find(|&at| bytes[at] & unused != 0) {
+            return (bytes, at);
+        }
+    }
 }
 
 /// Sometimes cut, sometimes between other streams.
-fn surrounded(rng: &mut Rng, mut bytes: Vec<u8>) -> Vec<u8> {
+pub fn surrounded(rng: &mut Rng, mut bytes: Vec<u8>) -> Vec<u8> {
     if rng.once_in(4) {
         bytes.truncate(rng.below(bytes.len() + 1));
     }
