@@ -3,6 +3,9 @@
 //!
 //! Both sides get the same bytes through the same loops, and must give the same answers. Neither
 //! is inlined into the loops: the library can't be, and the reference isn't allowed to be.
+//!
+//! A second table has the library's time for recordings in which all unused septet bits are set
+//! against its time for the same recordings without.
 
 mod library;
 mod recordings;
@@ -22,6 +25,8 @@ const LONG_TURNS: usize = 3;
 const LEAST: f64 = 500_000.0;
 /// The bus carries 9,600 bits a second, ten for a byte.
 const BUS: f64 = 960.0;
+/// The recordings' sizes.
+const SIZES: [(&str, usize); 3] = [("4 KiB", 1 << 12), ("64 KiB", 1 << 16), ("16 MiB", 1 << 24)];
 
 // The reference, not inlined.
 
@@ -76,7 +81,8 @@ macro_rules! validate_all {
             let answer = $validate(&input[place..]);
             seen = seen
                 .wrapping_mul(31)
-                .wrapping_add(answer.offset * 8 + answer.verdict as usize);
+                .wrapping_add(answer.offset * 8 + answer.verdict as usize)
+                .wrapping_add(answer.unused_septets << 16);
             place += if answer.verdict == 0 {
                 answer.offset
             } else {
@@ -169,7 +175,7 @@ fn sorted(mut numbers: Vec<f64>) -> Vec<f64> {
     numbers
 }
 
-/// Times both sides in turns and prints a row. `bytes` is what one run handles.
+/// Times both sides, which must give the same answer, and prints a row.
 fn compare(
     name: &str,
     bytes: usize,
@@ -177,34 +183,50 @@ fn compare(
     mut reference: impl FnMut() -> usize,
 ) {
     assert_eq!(library(), reference(), "{name}: the answers differ");
+    row(name, bytes, library, reference);
+}
+
+/// Times two works in turns and prints a row of a table. `bytes` is what one run handles.
+fn row(
+    name: &str,
+    bytes: usize,
+    mut work: impl FnMut() -> usize,
+    mut other: impl FnMut() -> usize,
+) {
     let mut repeats = 1;
-    while time(repeats, &mut library) * f64::from(repeats) < LEAST {
+    while time(repeats, &mut work) * f64::from(repeats) < LEAST {
         repeats *= 2;
     }
     let turns = if repeats == 1 { LONG_TURNS } else { TURNS };
-    let mut of_library = Vec::new();
-    let mut of_reference = Vec::new();
+    let mut of_work = Vec::new();
+    let mut of_other = Vec::new();
     for _ in 0..ROUNDS {
         let mut best = (f64::INFINITY, f64::INFINITY);
         for _ in 0..turns {
-            best.0 = best.0.min(time(repeats, &mut library));
-            best.1 = best.1.min(time(repeats, &mut reference));
+            best.0 = best.0.min(time(repeats, &mut work));
+            best.1 = best.1.min(time(repeats, &mut other));
         }
-        of_library.push(best.0);
-        of_reference.push(best.1);
+        of_work.push(best.0);
+        of_other.push(best.1);
     }
-    let ratios = of_library.iter().zip(&of_reference).map(|(a, b)| a / b);
+    let ratios = of_work.iter().zip(&of_other).map(|(a, b)| a / b);
     let ratios = sorted(ratios.collect());
-    let per_byte = median(&sorted(of_library)) / bytes as f64;
+    let per_byte = median(&sorted(of_work)) / bytes as f64;
     println!(
         "| {name} | {:.2} | {:.2} | {:.2} | {:.3} | {:.3} | {:.0} |",
         ratios[0],
         median(&ratios),
         ratios[ROUNDS - 1],
         per_byte,
-        median(&sorted(of_reference)) / bytes as f64,
+        median(&sorted(of_other)) / bytes as f64,
         1e9 / per_byte / BUS,
     );
+}
+
+/// A table's head; `other` names what the work is compared with.
+fn head(work: &str, other: &str) {
+    println!("| {work} | min | median | max | ns a byte | {other} | times the bus |");
+    println!("|---|---|---|---|---|---|---|");
 }
 
 fn recording(kind: &str, size: &str, input: &[u8]) {
@@ -242,6 +264,45 @@ fn recording(kind: &str, size: &str, input: &[u8]) {
     assert!(
         out_a == out_b,
         "normalize, {kind}, {size}: the bytes differ"
+    );
+}
+
+/// The library with a recording that has unused septet bits against the library with the same without.
+fn unused_bits(size: &str, with: &[u8], without: &[u8]) {
+    let mut payload_a = [0u8; 508];
+    let mut payload_b = [0u8; 508];
+    let mut out_a = vec![0u8; with.len()];
+    let mut out_b = vec![0u8; with.len()];
+    let n = with.len();
+    row(
+        &format!("validate, {size}"),
+        n,
+        || validate_all!(lib::validate, with),
+        || validate_all!(lib::validate, without),
+    );
+    row(
+        &format!("next, {size}"),
+        n,
+        || next_all!(lib::next, with, &mut payload_a),
+        || next_all!(lib::next, without, &mut payload_b),
+    );
+    row(
+        &format!("normalize, {size}"),
+        n,
+        || {
+            let answer = lib::normalize(black_box(with), &mut out_a);
+            black_box(&mut out_a);
+            answer.length
+        },
+        || {
+            let answer = lib::normalize(black_box(without), &mut out_b);
+            black_box(&mut out_b);
+            answer.length
+        },
+    );
+    assert!(
+        out_a == without && out_b == without,
+        "normalize, {size}: the bytes differ"
     );
 }
 
@@ -311,11 +372,19 @@ fn encode(name: &str, version: u8, command: u16, length: usize, random: &mut Ran
 }
 
 fn main() {
-    println!("| Work | min | median | max | ns a byte | reference | times the bus |");
-    println!("|---|---|---|---|---|---|---|");
+    head("Work", "reference");
     let mut random = Random(0x9E37_79B9_7F4A_7C15);
-    for (kind, make) in recordings::KINDS {
-        for (size, n) in [("4 KiB", 1 << 12), ("64 KiB", 1 << 16), ("16 MiB", 1 << 24)] {
+    let clean = SIZES.map(|(size, n)| (size, recordings::clean(n, &mut random)));
+    let unused = clean
+        .clone()
+        .map(|(size, input)| (size, recordings::with_unused_bits(input)));
+    for (kind, inputs) in [("clean", &clean), ("unused bits", &unused)] {
+        for (size, input) in inputs {
+            recording(kind, size, input);
+        }
+    }
+    for (kind, make) in recordings::OTHERS {
+        for (size, n) in SIZES {
             recording(kind, size, &make(n, &mut random));
         }
     }
@@ -336,5 +405,10 @@ fn main() {
     }
     for (kind, make) in recordings::RECEIVED {
         receiver(kind, &make(1 << 16, &mut random));
+    }
+    println!();
+    head("Library, unused bits / clean", "clean");
+    for ((size, with), (_, without)) in unused.iter().zip(&clean) {
+        unused_bits(size, with, without);
     }
 }

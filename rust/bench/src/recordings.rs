@@ -1,6 +1,6 @@
 //! Recordings to time on, the same in every run.
 
-use reference::{encode, Header};
+use reference::{checksum, encode, validate, Header};
 
 /// xorshift64
 pub struct Random(pub u64);
@@ -26,8 +26,8 @@ impl Random {
 
 type Make = fn(usize, &mut Random) -> Vec<u8>;
 
-pub const KINDS: [(&str, Make); 4] = [
-    ("clean", clean),
+/// What is read beside clean recordings.
+pub const OTHERS: [(&str, Make); 3] = [
     ("noisy", noisy),
     ("no 0xAA", without_sync),
     ("all 0xAA", all_sync),
@@ -67,7 +67,7 @@ fn stream(random: &mut Random, out: &mut [u8; 772]) -> usize {
 }
 
 /// Whole streams with nothing between, up to `n` bytes.
-fn clean(n: usize, random: &mut Random) -> Vec<u8> {
+pub fn clean(n: usize, random: &mut Random) -> Vec<u8> {
     let mut bytes = Vec::with_capacity(n);
     let mut one = [0; 772];
     loop {
@@ -76,6 +76,34 @@ fn clean(n: usize, random: &mut Random) -> Vec<u8> {
             return bytes;
         }
         bytes.extend_from_slice(&one[..length]);
+    }
+}
+
+/// A clean recording with all unused bits set in every septet, under right checksums.
+pub fn with_unused_bits(mut bytes: Vec<u8>) -> Vec<u8> {
+    let mut rest = &mut bytes[..];
+    while !rest.is_empty() {
+        let (stream, behind) = rest.split_at_mut(validate(rest).offset);
+        set_unused_bits(stream);
+        rest = behind;
+    }
+    bytes
+}
+
+/// Telegrams have no unused bits.
+fn set_unused_bits(stream: &mut [u8]) {
+    match stream[5] {
+        0x10 => {
+            for frame in stream[10..].chunks_exact_mut(6) {
+                frame[4] |= 0x70;
+                frame[5] = checksum(&frame[..5]);
+            }
+        }
+        0x20 => {
+            stream[14] |= 0x40;
+            stream[15] = checksum(&stream[1..15]);
+        }
+        _ => {}
     }
 }
 
