@@ -41,8 +41,9 @@ def checksum(data):
     return crc
 
 
-def with_septet(data):
-    septet = 0
+def with_septet(data, unused=0):
+    """`unused` goes to the bits above the data's, as far as a septet has any"""
+    septet = unused << len(data) & 0x7F
     for i, byte in enumerate(data):
         if byte & 0x80:
             septet |= 1 << i
@@ -53,9 +54,14 @@ def with_checksum(data):
     return data + bytes([checksum(data)])
 
 
-def frames(payload, width):
+def clear():
+    """What stands in a block's unused septet bits: nothing."""
+    return 0
+
+
+def frames(payload, width, unused=clear):
     parts = [payload[at : at + width] for at in range(0, len(payload), width)]
-    return b"".join(with_checksum(with_septet(part)) for part in parts)
+    return b"".join(with_checksum(with_septet(part, unused())) for part in parts)
 
 
 def word(value):
@@ -78,13 +84,13 @@ class Recording:
         self.lines.append(line.rstrip())
         self.bytes += b"\xAA" + data
 
-    def packet(self, destination, source, command, payload):
+    def packet(self, destination, source, command, payload, unused=clear):
         head = address(destination, source, 0x10) + word(command) + bytes([len(payload) // 4])
-        self.stream("P", destination, source, 0x10, command, 4, payload, with_checksum(head) + frames(payload, 4))
+        self.stream("P", destination, source, 0x10, command, 4, payload, with_checksum(head) + frames(payload, 4, unused))
 
-    def datagram(self, destination, source, command, identifier, value):
+    def datagram(self, destination, source, command, identifier, value, unused=clear):
         payload = word(identifier) + value.to_bytes(4, "little", signed=value < 0)
-        head = address(destination, source, 0x20) + word(command) + with_septet(payload)
+        head = address(destination, source, 0x20) + word(command) + with_septet(payload, unused())
         self.stream("D", destination, source, 0x20, command, 4, payload, with_checksum(head))
 
     def telegram(self, destination, source, command, payload=b"", version=0x30):
@@ -156,6 +162,14 @@ def sizes():
     return r
 
 
+def uncovered(whole, bits):
+    """A packet or a datagram with these septet bits set, and its checksums as they were."""
+    data = bytearray(whole)
+    for at in range(14, len(data), 6 if data[5] == 0x10 else 16):
+        data[at] |= bits
+    return bytes(data)
+
+
 def damage():
     """Each sample cut at every place, with every bit flipped, and with a 0xAA at every place; and faults with right checksums."""
     r = Recording()
@@ -179,10 +193,10 @@ def damage():
         r.noise(b"\xAA")
     for version in [0x00, 0x0F, 0x11, 0x21, 0x2F, 0x32, 0x40, 0x7F]:
         r.noise(b"\xAA" + with_checksum(address(0x0010, 0x7E21, version) + word(0x0100) + b"\x00"))
-    for bit in [4, 5, 6]:
-        head = with_checksum(address(0x0010, 0x7E21, 0x10) + word(0x0100) + b"\x01")
-        r.noise(b"\xAA" + head + with_checksum(bytes([1, 2, 3, 4, 1 << bit])))
-    r.noise(b"\xAA" + with_checksum(address(0x0020, 0x7210, 0x20) + word(0x0100) + bytes(6) + b"\x40"))
+    # unused septet bits that the checksums leave out
+    for bits in range(0x10, 0x80, 0x10):
+        r.noise(uncovered(one(SAMPLES[1]), bits))
+    r.noise(uncovered(one(SAMPLES[2]), 0x40))
     # the septet left out of the frame's checksum
     head = with_checksum(address(0x0010, 0x7E21, 0x10) + word(0x0100) + b"\x01")
     r.noise(b"\xAA" + head + bytes([1, 2, 3, 4, 5, checksum([1, 2, 3, 4])]))
@@ -263,9 +277,8 @@ class Plant:
         return b"".join(bytes([len(data) // 4, kind, 0, 0]) + data for kind, data in sections)
 
 
-def trouble(r, plant, second, whole):
+def trouble(r, numbers, second, whole):
     """What a long line does to a stream now and then."""
-    numbers = plant.numbers
     at = 1 + numbers.below(len(whole) - 1)
     if second % 3 == 0:
         r.noise(whole[:at])
@@ -286,7 +299,7 @@ def plant():
         p.step()
         payload = p.packet(second)
         if second % 17 == 11:
-            trouble(r, p, second, one(lambda s: s.packet(0x0010, 0x7E21, 0x0100, payload)))
+            trouble(r, p.numbers, second, one(lambda s: s.packet(0x0010, 0x7E21, 0x0100, payload)))
         r.packet(0x0010, 0x7E21, 0x0100, payload)
         if second % 2 == 0:
             sub = 1 + second // 2 % 2
@@ -302,6 +315,41 @@ def plant():
         elif second % 15 == 10:
             r.datagram(0x0000, 0x7E21, 0x0500, 0, 0)
     r.noise(one(lambda s: s.packet(0x0010, 0x7E21, 0x0100, p.packet(240)))[:101])
+    return r
+
+
+def older():
+    """Forty seconds of an older controller, which leaves anything in unused septet bits, on a bus with others that leave none."""
+    r = Recording()
+    p = Plant()
+    numbers = Numbers(10)
+    anything = lambda: numbers.below(2) * numbers.below(8)
+    everything = lambda: 7
+    # the fewest and the most bytes, and each value that the unused bits of a packet and a datagram can have
+    r.packet(0x0010, 0x4221, 0x0300, b"", everything)
+    r.packet(0x0010, 0x4221, 0x0100, numbers.some(508), anything)
+    for bits in range(8):
+        r.packet(0x0010, 0x4221, 0x0100, bytes.fromhex("01820384"), lambda: bits)
+        r.datagram(0x0020, 0x4221, 0x0100, 0x9234, bits - 4, lambda: bits)
+    for second in range(40):
+        p.step()
+        values = p.packet(second)[:32]
+        if second % 7 == 3:
+            trouble(r, numbers, second, one(lambda s: s.packet(0x0010, 0x4221, 0x0100, values, everything)))
+        if second % 7 == 5:
+            # the same values under the checksums of septets without unused bits
+            r.noise(uncovered(one(lambda s: s.packet(0x0010, 0x4221, 0x0100, values)), 0x70))
+        r.packet(0x0010, 0x4221, 0x0100, values, anything if second % 2 else everything)
+        if second % 4 == 1:
+            r.packet(0x0010, 0x7E21, 0x0100, values)
+        if second % 5 == 2:
+            r.datagram(0x0000, 0x4221, 0x0500, 0, 0, anything)
+            r.datagram(0x4221, 0x0020, 0x0300, 0x1234, 0)
+            r.datagram(0x0020, 0x4221, 0x0100, 0x1234, p.temperatures[4], everything)
+        if second % 10 == 6:
+            r.telegram(0x2011, 0x7731, 0x04)
+            r.telegram(0x7731, 0x2011, 0x25, bytes(range(0xF9, 0x100)))
+    r.noise(one(lambda s: s.packet(0x0010, 0x4221, 0x0100, p.packet(40)[:32], everything))[:-1])
     return r
 
 
@@ -327,7 +375,7 @@ def empty():
 
 
 def lister():
-    """What `rt ci` runs the lister on: document 01's P1, D1 and T2, the smallest and the largest streams, and damage."""
+    """What `rt ci` runs the lister on: document 01's P1, D1 and T2, the smallest and largest streams, unused septet bits, and damage."""
     r = Recording()
     r.packet(0x4411, 0x6610, 0x0200, bytes.fromhex("07040F00"))
     r.datagram(0x0020, 0x1911, 0x0100, 0, 0)
@@ -343,6 +391,8 @@ def lister():
     r.packet(0x0010, 0x7E21, 0x0300, b"")
     r.telegram(0x2010, 0x7731, 0x04)
     r.telegram(0x7731, 0x2110, 0x69, numbers.some(21), version=0x31)
+    r.packet(0x0010, 0x4221, 0x0100, bytes.fromhex("E803F401FFFF0080"), lambda: 7)
+    r.datagram(0x0020, 0x4221, 0x0100, 0x1234, -750, lambda: 1)
     r.noise(bytes.fromhex("00 FF 7F AA 55 80 AA"))
     # six frames announced, the first with a wrong checksum; a whole telegram stands in place of the next ones
     whole = one(lambda s: s.packet(0x0010, 0x7E21, 0x0100, numbers.some(24)))
@@ -354,7 +404,7 @@ def lister():
     return r
 
 
-SHIPPED = [examples, sizes, damage, plant, empty]
+SHIPPED = [examples, sizes, damage, plant, older, empty]
 LARGE = [full, over]
 
 

@@ -1,4 +1,4 @@
-"""Document 01's rules, read independently of the library: nothing of it is used here.
+"""Document 01's rules, as document 02 changes them, read independently of the library: nothing of it is used here.
 
 Plain and slow, to compare with. Streams, payloads and recordings are bytes; a record is (version, destination, source, command, payload),
 a header the same without the payload. `number` is 0, or the refusal's.
@@ -36,7 +36,7 @@ def extract(block, length):
 
 def inject(block, length, septet):
     """number, seven bytes, length, septet"""
-    if length > 7 or any(b >= 0x80 for b in block[:length]) or septet >= 0x80 or septet >> length:
+    if length > 7 or any(b >= 0x80 for b in block[:length]) or septet >= 0x80:
         return 7, bytes(7), 0, 0
     return 0, with_top_bits(block[:length], septet).ljust(7, b"\0"), length, 0
 
@@ -49,36 +49,37 @@ def frame_count(s):
 
 
 def validate(s):
-    """the verdict's number, and the offset"""
+    """the verdict's number, the offset, and how many blocks of a whole stream have unused septet bits"""
     end = None  # known once the header is right
+    unused = 0
     for k, byte in enumerate(s):
         if k == end:
             break
         if k == 0:
             if byte != 0xAA:
-                return 1, 0
+                return 1, 0, 0
             continue
         if byte >= 0x80:
-            return 2, k
+            return 2, k, 0
         if k == 5 and byte not in HEADER:
-            return 3, 5
+            return 3, 5, 0
         if k < 6:
             continue
         head, width = HEADER[s[5]], WIDTH[s[5]]
         if k < head:
-            if s[5] == DATAGRAM and k == 14 and byte >> 6:
-                return 5, 14
+            if s[5] == DATAGRAM and k == 14 and byte >> width:
+                unused += 1
             if k == head - 1:
                 if checksum(s[1:k]) != byte:
-                    return 4, k
+                    return 4, k, 0
                 end = head + (width + 2) * frame_count(s)
             continue
         start = head + (k - head) // (width + 2) * (width + 2)
         if k == start + width and byte >> width:
-            return 5, k
+            unused += 1
         if k == start + width + 1 and checksum(s[start:k]) != byte:
-            return 6, k
-    return (0, end) if end is not None and len(s) >= end else (7, len(s))
+            return 6, k, 0
+    return (0, end, unused) if end is not None and len(s) >= end else (7, len(s), 0)
 
 
 def decode(s):

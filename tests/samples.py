@@ -52,21 +52,27 @@ def extract(name, text, length):
     septets("x", name, block, length, rules.extract(block, length))
 
 
-def inject(name, text, length, septet):
+def inject(name, text, length, septet, number, put="00 00 00 00 00 00 00"):
+    """`put` is the seven bytes that must come back"""
     block = bytes.fromhex(text)
-    septets("j", name, block, length, rules.inject(block, length, septet), septet)
+    answer = rules.inject(block, length, septet)
+    assert answer == (number, bytes.fromhex(put), 0 if number else length, 0), (name, answer)
+    septets("j", name, block, length, answer, septet)
 
 
-def one(name, text, verdict, offset, payload=None):
-    """a stream, with the verdict and the offset that a paper gives or that were worked out by hand"""
+def one(name, text, verdict, offset, payload=None, unused=0):
+    """a stream, with the verdict, the offset and the number of blocks with unused septet bits that a paper gives or that were worked out
+    by hand; written again it has the same bytes, or others where there are such bits"""
     s = bytes.fromhex(text)
-    assert rules.validate(s) == (verdict, offset), (name, rules.validate(s))
+    assert rules.validate(s) == (verdict, offset, unused), (name, rules.validate(s))
     if verdict:
-        return ask("v", name, s, "V%d" % verdict, offset)
+        return ask("v", name, s, "V%d" % verdict, offset, unused)
     record = rules.decode(s)
     assert payload is None or record[4] == bytes.fromhex(payload), name
-    assert rules.encode(record, offset) == (0, s[:offset]), name
-    ask("v", name, s, "V0", offset, *told(record), "again")
+    number, stream = rules.encode(record, offset)
+    assert number == 0 and rules.validate(stream) == (0, offset, 0) and rules.decode(stream) == record, name
+    assert (stream == s[:offset]) == (unused == 0), name
+    ask("v", name, s, "V0", offset, unused, *told(record), "afresh" if unused else "again")
 
 
 def encode(name, record, room, number):
@@ -165,6 +171,17 @@ D1 = "AA 20 00 11 19 20 00 01 00 00 00 00 00 00 00 14"
 T1 = "AA 10 20 31 77 30 01 76"
 T2 = "AA 31 77 10 20 30 23 54 38 10 0D 36 46 23 00 1A 71"
 T3 = "AA 31 77 10 20 30 25 52 68 03 69 00 00 00 00 05 26"
+# Unused septet bits: bit 4 in P1, bit 6 in D1 and in one whose other bits are all set, bits 4, 5 and 6 in two of three frames, beside bits
+# that are used. The checksums are those of these septets.
+P1_UNUSED = P1[:-5] + "10 55"
+D1_UNUSED = D1[:-5] + "40 54"
+D2_UNUSED = D1[:23] + "34 12 6E 02 00 00 7F 5F"
+P3_HEADER = "AA 11 44 10 66 10 00 02 03 1F"
+P3_UNUSED = P3_HEADER + "68 03 74 01 65 3A 07 04 0F 7F 09 5D 01 02 03 04 1A 5B"
+P3 = P3_HEADER + "68 03 74 01 05 1A 07 04 0F 7F 09 5D 01 02 03 04 0A 6B"
+P3_PAYLOAD = "E8 03 F4 01 87 04 0F FF 01 82 03 84"
+# All seven bits of a telegram's septet are used.
+T4 = "AA 31 77 10 20 30 25 52 01 02 03 04 05 06 07 7F 64"
 PRINTED = {  # document 000
     "short-packet": P1,
     "request-slave-id": T1,
@@ -185,18 +202,23 @@ extract("extract-beyond", "E8 03 F4 01 FF FF FF", 4)
 extract("extract-seven", "38 90 0D B6 C6 23 00", 7)
 extract("extract-none", "FF FF FF FF FF FF FF", 0)
 extract("extract-eight", "FF FF FF FF FF FF FF", 8)
-inject("inject-four", "68 03 74 01 00 00 00", 4, 0x05)
-inject("inject-beyond", "68 03 74 01 FF FF FF", 4, 0x05)
-inject("inject-seven", "38 10 0D 36 46 23 00", 7, 0x1A)
-inject("inject-none", "FF FF FF FF FF FF FF", 0, 0)
-inject("inject-eight", "68 03 74 01 00 00 00", 8, 0x05)
-inject("inject-byte-80", "68 03 74 80 00 00 00", 4, 0x05)
-inject("inject-septet-80", "68 03 74 01 00 00 00", 7, 0x80)
-inject("inject-septet-10", "68 03 74 01 00 00 00", 4, 0x10)
+inject("inject-four", "68 03 74 01 00 00 00", 4, 0x05, 0, "E8 03 F4 01 00 00 00")
+inject("inject-beyond", "68 03 74 01 FF FF FF", 4, 0x05, 0, "E8 03 F4 01 00 00 00")
+inject("inject-seven", "38 10 0D 36 46 23 00", 7, 0x1A, 0, "38 90 0D B6 C6 23 00")
+inject("inject-none", "FF FF FF FF FF FF FF", 0, 0, 0)
+inject("inject-eight", "68 03 74 01 00 00 00", 8, 0x05, 7)
+inject("inject-byte-80", "68 03 74 80 00 00 00", 4, 0x05, 7)
+inject("inject-septet-80", "68 03 74 01 00 00 00", 7, 0x80, 7)
+inject("inject-septet-10", "68 03 74 01 00 00 00", 4, 0x10, 0, "68 03 74 01 00 00 00")
+inject("inject-septet-75", "68 03 74 01 FF FF FF", 4, 0x75, 0, "E8 03 F4 01 00 00 00")
+inject("inject-septet-7F-six", "01 02 03 04 05 06 07", 6, 0x7F, 0, "81 82 83 84 85 86 00")
+inject("inject-septet-7F-none", "FF FF FF FF FF FF FF", 0, 0x7F, 0)
+inject("inject-septet-90", "68 03 74 01 00 00 00", 4, 0x90, 7)
+inject("inject-septet-80-none", "FF FF FF FF FF FF FF", 0, 0x80, 7)
 
 one("P1", P1, 0, 16, "07 04 0F 00")
 one("P1-cut", P1[:-3], 7, 15)
-one("P1-septet-10", P1[:-5] + "10 55", 5, 14)
+one("P1-septet-10", P1_UNUSED, 0, 16, "07 04 0F 00", unused=1)  # document 02
 one("AA-P1", "AA " + P1, 2, 1)
 one("D1", D1, 0, 16, "00 00 00 00 00 00")
 one("T1-77", T1[:-2] + "77", 4, 7)
@@ -211,8 +233,21 @@ for text in (T2, PRINTED["sub-address"]):  # document 000's product and device i
     assert number(text, 0, 3) == 888888 and number(text, 3, 6) == 17 * 2**17 + 116406
 assert number(PRINTED["sub-address"], 6, 7) == 1 and number(PRINTED["baud-rate"], 0, 4) == 115200
 one("P1-checksum-64", P1[:-2] + "64", 6, 15)
-one("D1-septet-40", D1[:-5] + "40 54", 5, 14)
 one("D1-checksum-15", D1[:-2] + "15", 4, 15)
+one("D1-septet-40", D1_UNUSED, 0, 16, "00 00 00 00 00 00", unused=1)
+one("three-septets", P3, 0, 28, P3_PAYLOAD)
+one("three-septets-65-1A", P3_UNUSED, 0, 28, P3_PAYLOAD, unused=2)
+one("D-septet-7F", D2_UNUSED, 0, 16, "B4 92 EE 82 80 80", unused=1)
+one("T-septet-7F", T4, 0, 17, "81 82 83 84 85 86 87")
+one("P1-septet-70", P1[:-5] + "70 75", 0, 16, "07 04 0F 00", unused=1)
+one("P1-septet-90", P1[:-5] + "90 55", 2, 14)
+# A checksum covers the septet as it came: these are those of the septets 00 and 0A.
+one("P1-septet-10-checksum-65", P1[:-5] + "10 65", 6, 15)
+one("D1-septet-40-checksum-14", D1[:-5] + "40 14", 4, 15)
+one("three-septets-checksum-6B", P3_UNUSED[:-2] + "6B", 6, 27)
+# Blocks are counted only of a whole stream.
+one("P1-septet-10-cut", P1_UNUSED[:-3], 7, 15)
+one("three-septets-cut", P3_UNUSED[:-2], 7, 27)
 one("T1-sync-2A", "2A" + T1[2:], 1, 0)
 one("T1-version-11", "AA 10 20 31 77 11 01 76", 3, 5)
 one("T1-version-90", "AA 10 20 31 77 90 01 76", 2, 5)
@@ -284,12 +319,29 @@ normalize("normalize-room-33", damaged, 33, 0, P1 + T2)
 normalize("normalize-P1-D1-T2", P1 + D1 + T2, 49, 0, P1 + D1 + T2)
 normalize("normalize-P1-cut", P1[:-3], 800, 0, "")
 
+unused = P1_UNUSED + "00" + P1[:-5] + "10 65" + D1_UNUSED + P3_UNUSED + T4
+next_("next-septet-10", P1_UNUSED, 0, 4, 0)
+next_("next-three-septets", unused, 34, 12, 49)
+next_("next-three-septets-room-11", unused, 34, 11, 49)
+next_("next-checksum-65", unused, 1, 800, 33)
+normalize("normalize-septet-10", P1_UNUSED, 16, 0, P1)
+normalize("normalize-septet-40", D1_UNUSED, 16, 0, D1)
+normalize("normalize-D-septet-7F", D2_UNUSED, 16, 0, D2_UNUSED[:-5] + "3F 1F")
+normalize("normalize-three-septets", P3_UNUSED, 800, 0, P3)
+normalize("normalize-T-septet-7F", T4, 800, 0, T4)
+normalize("normalize-checksum-65", P1[:-5] + "10 65", 800, 0, "")
+normalize("normalize-unused", unused, 800, 0, P1 + D1 + P3 + T4)
+normalize("normalize-unused-room-77", unused, 77, 0, P1 + D1 + P3 + T4)
+normalize("normalize-unused-room-76", unused, 76, 5)
+
 receive("receive-empty", "", 0)
 receive("receive-P1", P1, 0, 16)
 receive("receive-P1-cut", P1[:-3], 15)
 receive("receive-AA-P1", "AA" + P1, 0, 17)
 receive("receive-P1-D1-T2", P1 + D1 + T2, 0, 16, 32, 49)
 receive("receive-damaged", damaged, 0, 16, 46)
+receive("receive-septet-10", P1_UNUSED, 0, 16)
+receive("receive-unused", unused, 0, 16, 49, 77, 94)
 receive("receive-T1-77", T1[:-2] + "77" + T1, 0, 16)
 receive("receive-high", "AA 10 20 FF 31 77 30 01 76", 0)
 receive("receive-version-11", "AA 10 20 31 77 11", 0)
