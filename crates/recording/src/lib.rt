@@ -77,16 +77,15 @@ pub fn decode(input: &[u8], out: &mut [u8]) -> Found
     ensures { λ r. ⌜ r ≡ decodedOf (now (input .entry)) (length (now (out .entry))) ⌝ }
     ensures { λ r. ⌜ now (out .exit) ≡ decodedAfter (now (input .entry)) (now (out .entry)) ⌝ }
 {
-    let validation = stream::validate(input);
-    if validation.verdict != 0 {
+    let stop = stream::first_fault(input);
+    if stop.verdict != 0 {
         return without(0);
     }
     deliver(
         input,
         Span {
             place: 0,
-            length: validation.offset,
-            unused_septets: validation.unused_septets,
+            length: stop.offset,
         },
         out,
     )

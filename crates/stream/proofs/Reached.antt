@@ -13,8 +13,9 @@ use lib.Seq.{drop-cons, drop-length}
 use Rattle.basics.specs.Choice.{choose}
 use Rattle.stream.specs.Layout.{streamLength}
 use Rattle.stream.specs.Unused.{unusedSeptets}
+use Rattle.stream.specs.declared.Stop.{Stop}
 use Rattle.stream.specs.declared.Validation.{Validation}
-use Rattle.stream.specs.Validation.{faultAt, verdictAt, validationFrom, validationOf}
+use Rattle.stream.specs.Validation.{faultAt, verdictAt, validationFrom, validationOf, stopOf}
 use Rattle.stream.specs.Stage.{Clean, Reached, whole, ended, found}
 
 -- ── what is reached is the answer
@@ -52,6 +53,9 @@ sound s v k (ended z o clean below) =
     ap₂ (verdictAt s) z o ∙ sym (skip s (length s) clean (omega arith) (omega arith) ∙ rw drop-length (at-end s _ below))
 sound s v k (found e bad clean below inside) =
     ap (λ (n : ℕ). verdictAt s n k) (sym e) ∙ sym (skip s k clean (omega arith) (omega arith) ∙ at-fault s k (omega arith) inside below)
+
+pub stop-sound : (s : List ℕ) (v k : ℕ) → Reached (faultAt s) (streamLength s) (length s) v k → record { verdict = v; offset = k } ≡ stopOf s
+stop-sound s v k reached = ap (λ (x : Validation). record { verdict = x .verdict; offset = x .offset }) (sound s v k reached)
 
 -- ── and the answer is reached
 
@@ -154,3 +158,18 @@ whole-counted s w = ap (λ (v : Validation). v .«unused_septets») (said-again 
 pub faulty-counted : (s : List ℕ) → (validationOf s .verdict ≡ 0 → ⊥) → validationOf s .«unused_septets» ≡ 0
 unfolding choose
 faulty-counted s bad = ap (λ (v : Validation). v .«unused_septets») (said-again s) ∙ simp (ne-eqb _ 0 bad)
+
+-- ── the verdict and the offset make up the answer with the count
+
+module _ (s : List ℕ) (r : Stop) (told : r ≡ stopOf s) where
+  with-count : (n : ℕ) → n ≡ validationOf s .«unused_septets» → record { verdict = r .verdict; offset = r .offset; «unused_septets» = n } ≡ validationOf s
+  with-count n e = ap₂ (λ (x : Stop) (n : ℕ). record { verdict = x .verdict; offset = x .offset; «unused_septets» = n }) told e
+
+  is : r .verdict ≡ validationOf s .verdict
+  is = ap (λ (x : Stop). x .verdict) told
+
+  pub with-unused : r .verdict ≡ 0 → record { verdict = r .verdict; offset = r .offset; «unused_septets» = unusedSeptets s } ≡ validationOf s
+  with-unused w = with-count (unusedSeptets s) (sym (whole-counted s (sym is ∙ w)))
+
+  pub without-unused : (r .verdict ≡ 0 → ⊥) → record { verdict = r .verdict; offset = r .offset; «unused_septets» = 0 } ≡ validationOf s
+  without-unused faulty = with-count 0 (sym (faulty-counted s (λ w. faulty (is ∙ w))))

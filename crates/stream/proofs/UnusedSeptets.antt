@@ -1,22 +1,22 @@
 -- Laws of unused septet bits: frame by frame, and how many blocks have them.
-use Prim.Native.Nat.{ℕ, suc, _+_, _-_, _*_, _/_, _%_, _<_, _≤_}
+use Prim.Native.Nat.{ℕ, zero, suc, _+_, _-_, _<_, _≤_}
 use native.Mathlib.Omega.{arith}
 use native.Mathlib.Decide.{ℕ-discrete}
-use native.Mathlib.Nat.{mul-suc}
+use native.Mathlib.Nat.{div-eq-of-lt}
 use mathlib.Core.Path.{_≡_, refl, ap, _∙_}
 use mathlib.Core.Logic.{dite}
 use mathlib.Core.List.{List, [], _∷_}
 use borrow.Author.Tests.{eq-eqb, ne-eqb}
-use lib.ListN.{length, getD, drop}
+use lib.ListN.{length, getD, drop, length-drop, List·getD-eq-default}
+use lib.Pow.{pow-pos}
 use lib.Seq.{getD-drop, drop-drop}
 use Rattle.basics.specs.Bytes.{AllBelow}
 use Rattle.basics.specs.Choice.{choose}
 use Rattle.septet.specs.Septet.{unusedBits}
-use Rattle.stream.specs.Layout.{kind, headerLength, frameWidth, frameCount, streamLength}
+use Rattle.stream.specs.Layout.{kind, frameCount}
 use Rattle.stream.specs.Unused.{unusedFrames, unusedIn, nonzero, countNonzero, unusedSeptets}
 use Rattle.stream.specs.declared.Kind.{Kind}
-use Rattle.stream.specs.declared.Kind.the-variants.{Packet, Datagram, Telegram}
-use Rattle.stream.proofs.Headers.{length-as}
+use Rattle.stream.specs.declared.Kind.the-variants.{Packet, Datagram, Telegram, Unknown}
 
 pub nonzero-zero : (n : ℕ) → n ≡ 0 → nonzero n ≡ 0
 unfolding choose
@@ -64,25 +64,31 @@ pub unused-next : (width n : ℕ) (s : List ℕ) (from : ℕ) → 0 < n
     ≡ nonzero (unusedBits width (getD s (from + width) 0)) + countNonzero (unusedFrames width (n - 1) (drop (from + (width + 2)) s))
 unused-next width n s from h = unused-step width n (drop from s) h ∙ rw (getD-drop, drop-drop)
 
--- a frame fewer, counted in bytes
-pub frame-fewer : (width n : ℕ) → 0 < n → (width + 2) * n ≡ width + 2 + (width + 2) * (n - 1)
-frame-fewer width n h = let e : n ≡ suc (n - 1) = omega arith in ap (λ (m : ℕ). (width + 2) * m) e ∙ omega (arith, mul-suc (width + 2) (n - 1))
+-- of frames that aren't there none has any
+pub unused-short : (width n : ℕ) (s : List ℕ) → length s ≤ width → countNonzero (unusedFrames width n s) ≡ 0
+unfolding unusedFrames countNonzero
+unused-short width zero s short = refl
+unused-short width (suc n) s short =
+    let here : unusedBits width (getD s width 0) ≡ 0 = rw (List·getD-eq-default s 0 {n = width} short) (div-eq-of-lt (pow-pos width)) in
+    omega (arith, nonzero-zero (unusedBits width (getD s width 0)) here, unused-short width n (drop (width + 2) s) (rw length-drop (omega arith)))
+
+-- ── by the kind
+
+unused-none : (K : Kind) (s : List ℕ) → length s < 15 → countNonzero (unusedIn K s) ≡ 0
+unfolding unusedIn countNonzero
+unused-none Packet s short = unused-short 4 (frameCount Packet s) (drop 10 s) (rw length-drop (omega arith))
+unused-none Datagram s short =
+    let here : unusedBits 6 (getD s 14 0) ≡ 0 = rw (List·getD-eq-default s 0 {n = 14} (omega arith)) in
+    omega (arith, nonzero-zero (unusedBits 6 (getD s 14 0)) here)
+unused-none Telegram s short = unused-short 7 (frameCount Telegram s) (drop 8 s) (rw length-drop (omega arith))
+unused-none Unknown s short = refl
+
+-- no septet stands before offset 14
+pub unused-before : (s : List ℕ) → length s < 15 → unusedSeptets s ≡ 0
+unfolding unusedSeptets
+unused-before s short = unused-none (kind s) s short
 
 -- of the kind that a match found
 pub unused-as : (s : List ℕ) (K : Kind) → kind s ≡ K → unusedSeptets s ≡ countNonzero (unusedIn K s)
 unfolding unusedSeptets
 unused-as s K e = ap (λ (x : Kind). countNonzero (unusedIn x s)) e
-
--- a stream that is there, by its kind
-module _ (s : List ℕ) (held : streamLength s ≤ length s) where
-  pub packet-held : kind s ≡ Packet → 10 + 6 * getD s 8 0 ≤ length s
-  unfolding headerLength frameWidth frameCount
-  packet-held e = omega (arith, length-as s Packet e)
-
-  pub datagram-held : kind s ≡ Datagram → 16 ≤ length s
-  unfolding headerLength frameWidth frameCount
-  datagram-held e = omega (arith, length-as s Datagram e)
-
-  pub telegram-held : kind s ≡ Telegram → 8 + 9 * (getD s 6 0 / 32 % 4) ≤ length s
-  unfolding headerLength frameWidth frameCount
-  telegram-held e = omega (arith, length-as s Telegram e)

@@ -10,6 +10,7 @@ use Rattle.stream.specs.Layout.{kind, headerLength, frameWidth, streamLe
 use Rattle.stream.specs.Unused.{unusedSeptets}
 use Rattle.stream.specs.declared.Kind.{Kind}
 use Rattle.stream.specs.declared.Kind.the-variants.{Packet, Datagram, Telegram, Unknown}
+use Rattle.stream.specs.declared.Stop.{Stop}
 use Rattle.stream.specs.declared.Validation.{Validation}
 use Rattle.stream.specs.declared.Verdict.{Verdict}
 use Rattle.stream.specs.declared.Verdict.the-variants.{Whole, NoSync, HighByte, UnknownVersion, HeaderChecksum, FrameChecksum, Ended}
@@ -76,6 +77,10 @@ validationFrom s k (byte ∷ rest) =
 -- what is said of a stretch, from its first byte on
 abbrev pub validationOf : List ℕ → Validation
 validationOf s = validationFrom s 0 s
+
+-- the verdict and the offset alone
+abbrev pub stopOf : List ℕ → Stop
+stopOf s = record { verdict = validationOf s .verdict; offset = validationOf s .offset }
 
 -- the stretch is V0: it begins with one whole valid stream
 abbrev pub isWhole : List ℕ → Bool

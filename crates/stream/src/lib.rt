@@ -1,8 +1,8 @@
 // One stream on the wire, validated from its first byte (document 01: judging).
 ghost use mathlib.Core.Path.{_≡_};
 ghost use Rattle.stream.specs.Layout.{kindOf, telegramFrames, payloadLength};
-ghost use Rattle.stream.specs.Validation.{number, validationOf};
-ghost use Rattle.stream.specs.Stage.{ReachedAll};
+ghost use Rattle.stream.specs.Unused.{unusedSeptets};
+ghost use Rattle.stream.specs.Validation.{number, stopOf, validationOf};
 
 mod frame;
 mod header;
@@ -60,10 +60,10 @@ pub struct Validation {
     pub unused_septets: usize,
 }
 
-// Where the search for faults stopped, and the verdict's number.
-struct Stop {
-    verdict: u8,
-    offset: usize,
+// Where the search for faults stopped: a verdict's number and its offset.
+pub struct Stop {
+    pub verdict: u8,
+    pub offset: usize,
 }
 
 fn at(verdict: Verdict, offset: usize) -> Stop
@@ -107,9 +107,9 @@ pub fn payload_length(kind: Kind, frames: u8) -> usize
     }
 }
 
-// The verdict on the stream that `input` begins with: its first fault, or that it is whole.
-fn first_fault(input: &[u8]) -> Stop
-    ensures { λ r. ⌜ ReachedAll (now (input .entry)) r ⌝ }
+// The first fault of the stream that `input` begins with, or that it is whole.
+pub fn first_fault(input: &[u8]) -> Stop
+    ensures { λ r. ⌜ r ≡ stopOf (now (input .entry)) ⌝ }
 {
     if input.len() == 0 {
         return at(Verdict::Ended, 0);
@@ -124,7 +124,23 @@ fn first_fault(input: &[u8]) -> Stop
     header::validate(input)
 }
 
-// The verdict on the stream that `input` begins with. It stops at the first fault.
+// How many blocks of the stream that `input` begins with have unused septet bits set, as far as it is there.
+pub fn unused_septets(input: &[u8]) -> usize
+    ensures { λ r. ⌜ r ≡ unusedSeptets (now (input .entry)) ⌝ }
+{
+    // No septet stands before offset 14.
+    if input.len() < 15 {
+        return 0;
+    }
+    match kind_of(input[5]) {
+        Kind::Packet => unused::in_frames(&input[10..], 4, input[8] as usize),
+        Kind::Datagram => unused::in_septet(input[14], 6),
+        Kind::Telegram => unused::in_frames(&input[8..], 7, telegram_frames(input[6] as u16)),
+        Kind::Unknown => 0,
+    }
+}
+
+// The verdict on the stream that `input` begins with. Only a whole stream's unused septet bits are told.
 pub fn validate(input: &[u8]) -> Validation
     ensures { λ r. ⌜ r ≡ validationOf (now (input .entry)) ⌝ }
 {
@@ -141,6 +157,6 @@ pub fn validate(input: &[u8]) -> Validation
     Validation {
         verdict,
         offset,
-        unused_septets: unused::in_stream(input),
+        unused_septets: unused_septets(input),
     }
 }

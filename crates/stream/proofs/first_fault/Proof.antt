@@ -1,6 +1,8 @@
--- `stream::first_fault` meets its contract: each answer is what the stretch reaches. Assumes nothing.
+-- `stream::first_fault` meets its contract: each answer is what the stretch reaches, which is the definition's. Assumes nothing.
 use native.Mathlib.Omega.{arith}
+use mathlib.Core.Path.{_∙_}
 use Rattle.stream.proofs.Headers.{nothing, no-sync, address-stops, address-clean}
+use Rattle.stream.proofs.Reached.{stop-sound}
 use borrow.Author.Needs.{needs}
 use Rattle.stream.proofs.first_fault.Statement.{statement}
 use Rattle.stream.proofs.first_fault.Tie as tie
@@ -9,7 +11,7 @@ at-requires : tie.Need-at-requires
 at-requires c κs = search needs
 
 returns : tie.Need-returns
-returns c = rw (c .at .ensures) (nothing _ (c .before .if1 .taken))
+returns c = c .at .ensures ∙ stop-sound _ _ _ (nothing _ (c .before .if1 .taken))
 
 shared-slice-read-if2 : tie.Need-shared-slice-read-if2
 shared-slice-read-if2 c = search needs
@@ -18,7 +20,7 @@ at-requires-2 : tie.Need-at-requires-2
 at-requires-2 c κs = search needs
 
 returns-2 : tie.Need-returns-2
-returns-2 c = rw (c .at2 .ensures) (no-sync _ (c .before .if2 .taken) (omega arith))
+returns-2 c = c .at2 .ensures ∙ stop-sound _ _ _ (no-sync _ (c .before .if2 .taken) (omega arith))
 
 first-high-requires : tie.Need-first-high-requires
 first-high-requires c κs = search needs
@@ -28,13 +30,13 @@ stopped-requires c κs = search needs
 
 returns-3 : tie.Need-returns-3
 returns-3 c =
-    address-stops _ (c .before .before .before .if2 .left) _ (c .before .before .first-high .ensures) _ (c .before .if3 .taken) (c .stopped .ensures)
+    stop-sound _ _ _ (address-stops _ (c .before .before .before .if2 .left) _ (c .before .before .first-high .ensures) _ (c .before .if3 .taken) (c .stopped .ensures))
 
 validate-requires : tie.Need-validate-requires
 validate-requires c κs = address-clean _ (c .before .before .if2 .left) _ (c .before .first-high .ensures) (c .if3 .left)
 
 returns-4 : tie.Need-returns-4
-returns-4 c = c .validate .ensures
+returns-4 c = stop-sound _ _ _ (c .validate .ensures)
 
 pub first-fault-spec : {M : Type 1} → statement M
 first-fault-spec =

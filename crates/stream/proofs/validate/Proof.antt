@@ -1,9 +1,5 @@
--- `stream::validate` meets its contract: what is reached is the definition's answer, and a whole stream is counted. Assumes nothing.
-use mathlib.Core.Path.{sym, ap, _∙_}
-use borrow.Author.Tests.{eq-eqb, ne-eqb}
-use Rattle.basics.specs.Choice.{choose}
-use Rattle.stream.specs.declared.Validation.{Validation}
-use Rattle.stream.proofs.Reached.{sound, whole-clean}
+-- `stream::validate` meets its contract: the first fault, or that there is none and the count. Assumes nothing.
+use Rattle.stream.proofs.Reached.{with-unused, without-unused}
 use borrow.Author.Needs.{needs}
 use Rattle.stream.proofs.validate.Statement.{statement}
 use Rattle.stream.proofs.validate.Tie as tie
@@ -12,18 +8,14 @@ first-fault-requires : tie.Need-first-fault-requires
 first-fault-requires c κs = search needs
 
 returns : tie.Need-returns
-unfolding choose
-returns c = simp (ne-eqb _ 0 (c .if1 .taken)) at (sound _ _ _ (c .before .first-fault .ensures))
+returns c = without-unused _ _ (c .before .first-fault .ensures) (c .if1 .taken)
 
-in-stream-requires : tie.Need-in-stream-requires
-in-stream-requires c κs =
-    let told = ap (λ (v : Validation). v .verdict) (sound _ _ _ (c .before .first-fault .ensures)) in
-    whole-clean _ (sym told ∙ c .if1 .left) .held
+unused-septets-requires : tie.Need-unused-septets-requires
+unused-septets-requires c κs = search needs
 
 returns-2 : tie.Need-returns-2
-unfolding choose
-returns-2 c = rw (c .in-stream .ensures) (simp (eq-eqb _ 0 (c .before .if1 .left)) at (sound _ _ _ (c .before .before .first-fault .ensures)))
+returns-2 c = rw (c .unused-septets .ensures) (with-unused _ _ (c .before .before .first-fault .ensures) (c .before .if1 .left))
 
 pub validate-spec : {M : Type 1} → statement M
 validate-spec =
-    tie.close (tie.spec first-fault-requires returns in-stream-requires returns-2)
+    tie.close (tie.spec first-fault-requires returns unused-septets-requires returns-2)

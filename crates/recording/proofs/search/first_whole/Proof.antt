@@ -8,8 +8,8 @@ use native.Mathlib.Nat.{add-zero}
 use lib.ListN.{length, getD, drop, length-drop}
 use lib.Seq.{getD-drop}
 use Rattle.basics.proofs.Over.{part}
-use Rattle.stream.specs.Validation.{validationOf}
-use Rattle.stream.specs.declared.Validation.{Validation}
+use Rattle.stream.specs.Validation.{stopOf}
+use Rattle.stream.specs.declared.Stop.{Stop}
 use Rattle.stream.proofs.Offsets.{offset-within, offset-behind}
 use Rattle.recording.specs.Recording.{deliveriesAfter}
 use Rattle.recording.specs.Stage.{searched}
@@ -20,10 +20,10 @@ use Rattle.recording.proofs.search.first_whole.Statement.{statement}
 use Rattle.recording.proofs.search.first_whole.Tie as tie
 
 -- past a fault the search moves on, and not past the end
-fault-moves : (s : List ℕ) (r : ℕ) (a : Validation) → r < length s → getD s r 0 ≡ 0xAA → a ≡ validationOf (drop r s) → (0 < a .offset) × (r + a .offset ≤ length s)
+fault-moves : (s : List ℕ) (r : ℕ) (a : Stop) → r < length s → getD s r 0 ≡ 0xAA → a ≡ stopOf (drop r s) → (0 < a .offset) × (r + a .offset ≤ length s)
 fault-moves s r a inside sync is =
     let first : getD (drop r s) 0 0 ≡ 0xAA = getD-drop r s 0 0 ∙ rw add-zero sync in
-    let same = ap (λ (a : Validation). a .offset) is in
+    let same = ap (λ (a : Stop). a .offset) is in
     let long = length-drop r s in
     (omega (arith, same, offset-behind (drop r s) (omega arith) first), omega (arith, same, long, offset-within (drop r s)))
 
@@ -39,29 +39,29 @@ loop-holds c = refl
 next-sync-requires : tie.Need-next-sync-requires Inv-loop μ-loop
 next-sync-requires c κs = search needs
 
-sub-validate : tie.Need-sub-validate Inv-loop μ-loop
-sub-validate c = search needs
+sub-first-fault : tie.Need-sub-first-fault Inv-loop μ-loop
+sub-first-fault c = search needs
 
-part-validate-start : tie.Need-part-validate-start Inv-loop μ-loop
-part-validate-start c = search needs
+part-first-fault-start : tie.Need-part-first-fault-start Inv-loop μ-loop
+part-first-fault-start c = search needs
 
-part-validate-end : tie.Need-part-validate-end Inv-loop μ-loop
-part-validate-end c = search needs
+part-first-fault-end : tie.Need-part-first-fault-end Inv-loop μ-loop
+part-first-fault-end c = search needs
 
-validate-requires : tie.Need-validate-requires Inv-loop μ-loop
-validate-requires c κs = search needs
+first-fault-requires : tie.Need-first-fault-requires Inv-loop μ-loop
+first-fault-requires c κs = search needs
 
 add-at : tie.Need-add-at Inv-loop μ-loop
 add-at c =
     let sync = c .before .before .before .before .before in
     let s = sync .before .before .before .args .input .now in
-    omega (arith, fault-moves s (sync .next-sync .result) _ (omega arith) (sync .next-sync .ensures .here (omega arith)) (rw part at (c .before .before .validate .ensures)))
+    omega (arith, fault-moves s (sync .next-sync .result) _ (omega arith) (sync .next-sync .ensures .here (omega arith)) (rw part at (c .before .before .first-fault .ensures)))
 
 loop-less : tie.Need-loop-less Inv-loop μ-loop
 loop-less c =
     let sync = c .before .before .before .before .before in
     let s = sync .before .before .before .args .input .now in
-    let moved = fault-moves s (sync .next-sync .result) _ (omega arith) (sync .next-sync .ensures .here (omega arith)) (rw part at (c .before .before .validate .ensures)) in
+    let moved = fault-moves s (sync .next-sync .result) _ (omega arith) (sync .next-sync .ensures .here (omega arith)) (rw part at (c .before .before .first-fault .ensures)) in
     omega (arith, moved, sync .next-sync .ensures .after)
 
 loop-again : tie.Need-loop-again Inv-loop μ-loop
@@ -70,15 +70,15 @@ loop-again c =
     let s = sync .before .before .before .args .input .now in
     let r = sync .next-sync .result in
     let at = after-sync s (sync .before .loop .at) r (sync .next-sync .ensures) in
-    let answer = rw part at (c .before .before .validate .ensures) in
-    let on = after-fault s r (λ w. c .if2 .left (ap (λ (a : Validation). a .verdict) answer ∙ w)) in
-    ap (λ (a : Validation). deliveriesAfter s (r + a .offset)) answer ∙ sym (at ∙ on) ∙ sync .before .loop .inv
+    let answer = rw part at (c .before .before .first-fault .ensures) in
+    let on = after-fault s r (λ w. c .if2 .left (ap (λ (a : Stop). a .verdict) answer ∙ w)) in
+    ap (λ (a : Stop). deliveriesAfter s (r + a .offset)) answer ∙ sym (at ∙ on) ∙ sync .before .loop .inv
 
 returns : tie.Need-returns Inv-loop μ-loop
 returns c =
     let s = c .before .before .before .before .args .input .now in
     let at = after-sync s (c .before .before .loop .at) (c .before .next-sync .result) (c .before .next-sync .ensures) in
-    ap (searched s) (sym (after-end s (c .before .next-sync .result) (omega arith)) ∙ sym at ∙ c .before .before .loop .inv)
+    ap searched (sym (after-end s (c .before .next-sync .result) (omega arith)) ∙ sym at ∙ c .before .before .loop .inv)
 
 returns-2 : tie.Need-returns-2 Inv-loop μ-loop
 returns-2 c =
@@ -86,9 +86,9 @@ returns-2 c =
     let s = sync .before .before .before .args .input .now in
     let r = sync .next-sync .result in
     let at = after-sync s (sync .before .loop .at) r (sync .next-sync .ensures) in
-    let answer = rw part at (c .before .before .validate .ensures) in
-    let here = after-here s r (sym (ap (λ (a : Validation). a .verdict) answer) ∙ c .if2 .taken) in
-    ap (λ (a : Validation). At (record { place = r; length = a .offset; «unused_septets» = a .«unused_septets» })) answer ∙ ap (searched s) (sym here ∙ sym at ∙ sync .before .loop .inv)
+    let answer = rw part at (c .before .before .first-fault .ensures) in
+    let here = after-here s r (sym (ap (λ (a : Stop). a .verdict) answer) ∙ c .if2 .taken) in
+    ap (λ (a : Stop). At (record { place = r; length = a .offset })) answer ∙ ap searched (sym here ∙ sym at ∙ sync .before .loop .inv)
 
 pub first-whole-spec : {M : Type 1} → statement M
 first-whole-spec =
@@ -98,10 +98,10 @@ first-whole-spec =
     μ-loop
     loop-holds
     next-sync-requires
-    sub-validate
-    part-validate-start
-    part-validate-end
-    validate-requires
+    sub-first-fault
+    part-first-fault-start
+    part-first-fault-end
+    first-fault-requires
     add-at
     loop-less
     loop-again
