@@ -60,11 +60,12 @@ module _ (s : List ℕ) (start : ℕ) (span : Span) (found : FoundAt s start spa
   pub stretch-record : recordOf stretch ≡ recordOf (drop (span .place) s)
   stretch-record = stretch-said .1
 
-  pub stretch-one : (room : ℕ) → span .length ≤ room → OneStream stretch room
+  pub stretch-one : (room : ℕ) → span .length ≤ room → OneStream stretch (span .«unused_septets») room
   stretch-one room fits =
       record {
         whole = stretch-whole;
         sized = ap (λ (v : Validation). v .offset) (stretch-said .0) ∙ sym (found .whole-at .sized) ∙ sym stretch-length;
+        counted = found .whole-at .counted ∙ sym (ap (λ (v : Validation). v .«unused_septets») (stretch-said .0));
         held = omega (arith, stretch-length);
       }
 

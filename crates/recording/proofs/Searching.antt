@@ -30,28 +30,28 @@ pub record FoundAt (s : List ℕ) (start : ℕ) (span : Span) : Type 0 where
   pub inside : span .place + span .length ≤ length s
   pub deliveries : deliveriesAfter s start ≡ deliveryAt (span .place) (drop (span .place) s) ∷ deliveriesAfter s (span .place + span .length)
 
-found-at : (s : List ℕ) (start : ℕ) (ds : List Delivery) (span : Span) → deliveriesAfter s start ≡ ds → FirstAfter s start ds → searched ds ≡ At span → FoundAt s start span
+found-at : (s : List ℕ) (start : ℕ) (ds : List Delivery) (span : Span) → deliveriesAfter s start ≡ ds → FirstAfter s start ds → searched s ds ≡ At span → FoundAt s start span
 found-at s start ds span same (none free) e = absurd (let z : _≡_ {A = ℕ} 0 1 = cc in omega arith)
 found-at s start ds span same (some q after inside whole free) e =
-    let is : record { place = q; length = validationOf (drop q s) .offset } ≡ span = cc in
+    let is : record { place = q; length = validationOf (drop q s) .offset; «unused_septets» = validationOf (drop q s) .«unused_septets» } ≡ span = cc in
     let long = whole-long (drop q s) whole in
     subst (FoundAt s start) is
     (record {
       after = after;
-      whole-at = record { within = omega arith; whole = whole; sized = refl };
+      whole-at = record { within = omega arith; whole = whole; sized = refl; counted = refl };
       long = omega arith;
       inside = omega (arith, length-drop q s);
       deliveries = same;
     })
 
 module _ (s : List ℕ) (start : ℕ) where
-  pub search-found : (span : Span) (x : Search) → x ≡ searched (deliveriesAfter s start) → x ≡ At span → FoundAt s start span
+  pub search-found : (span : Span) (x : Search) → x ≡ searched s (deliveriesAfter s start) → x ≡ At span → FoundAt s start span
   search-found span x told e = found-at s start (deliveriesAfter s start) span refl (first-after s start) (sym told ∙ e)
 
-  pub search-none : (x : Search) → x ≡ searched (deliveriesAfter s start) → x ≡ Nothing → deliveriesAfter s start ≡ []
+  pub search-none : (x : Search) → x ≡ searched s (deliveriesAfter s start) → x ≡ Nothing → deliveriesAfter s start ≡ []
   search-none x told e = by-first (deliveriesAfter s start) (first-after s start) (sym told ∙ e)
     where
-      by-first : (ds : List Delivery) → FirstAfter s start ds → searched ds ≡ Nothing → ds ≡ []
+      by-first : (ds : List Delivery) → FirstAfter s start ds → searched s ds ≡ Nothing → ds ≡ []
       by-first ds (none free) e = refl
       by-first ds (some q after inside whole free) e = absurd (let z : _≡_ {A = ℕ} 0 1 = cc in omega arith)
 

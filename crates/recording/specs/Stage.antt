@@ -22,21 +22,23 @@ pub record NextSync (s : List ℕ) (start r : ℕ) : Type 0 where
   pub here : r < length s → getD s r 0 ≡ 0xAA
   pub passed : (k : ℕ) → k < r → start ≤ k → k < length s → getD s k 0 ≡ 0xAA → ⊥
 
--- the place and the length of the first delivery
-abbrev pub searched : List Delivery → Search
-searched [] = Nothing
-searched (d ∷ rest) = At (record { place = d .place; length = d .length })
+-- where the first delivery of s stands, and the unused septets there
+abbrev pub searched : List ℕ → List Delivery → Search
+searched s [] = Nothing
+searched s (d ∷ rest) = At (record { place = d .place; length = d .length; «unused_septets» = validationOf (drop (d .place) s) .«unused_septets» })
 
--- a whole stream stands at the place, and is as long as it is said to be
+-- a whole stream stands at the place, as long and with as many unused septets as is said
 pub record WholeAt (s : List ℕ) (span : Span) : Type 0 where
   pub within : span .place ≤ length s
   pub whole : validationOf (drop (span .place) s) .verdict ≡ 0
   pub sized : span .length ≡ validationOf (drop (span .place) s) .offset
+  pub counted : span .«unused_septets» ≡ validationOf (drop (span .place) s) .«unused_septets»
 
--- the bytes are one whole stream and no more, and the output has room for them
-pub record OneStream (s : List ℕ) (room : ℕ) : Type 0 where
+-- the bytes are one whole stream and no more, with so many unused septets, and the output has room for them
+pub record OneStream (s : List ℕ) (unused room : ℕ) : Type 0 where
   pub whole : validationOf s .verdict ≡ 0
   pub sized : validationOf s .offset ≡ length s
+  pub counted : unused ≡ validationOf s .«unused_septets»
   pub held : length s ≤ room
 
 -- the first n bytes are below 0x80

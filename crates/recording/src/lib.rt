@@ -86,6 +86,7 @@ pub fn decode(input: &[u8], out: &mut [u8]) -> Found
         Span {
             place: 0,
             length: stop.offset,
+            unused_septets: stop.unused_septets,
         },
         out,
     )

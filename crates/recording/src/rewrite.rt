@@ -30,12 +30,12 @@ fn measure(input: &[u8]) -> usize
 
 // Writes the record of one whole stream. Its bytes are what writing gives, exactly if no unused septet bit is set in them (law
 // `rewritten-same`): so they are copied, and such bits are cleared.
-fn one(stream: &[u8], out: &mut [u8])
-    requires { ⌜ OneStream (now stream) (length (now out)) ⌝ }
+fn one(stream: &[u8], unused: u8, out: &mut [u8])
+    requires { ⌜ OneStream (now stream) unused (length (now out)) ⌝ }
     ensures { λ r. ⌜ now (out .exit) ≡ over (streamOf (recordOf (now (stream .entry)))) (now (out .entry)) ⌝ }
 {
     bytes::copy(stream, out);
-    if stream::unused_septets(stream) != 0 {
+    if unused != 0 {
         clear::stream(out);
     }
 }
@@ -54,7 +54,7 @@ fn all(input: &[u8], out: &mut [u8]) -> usize
                 let place = span.place;
                 let length = span.length;
                 at = place + length;
-                one(&input[place..at], &mut out[to..]);
+                one(&input[place..at], span.unused_septets, &mut out[to..]);
                 to += length;
             }
             Search::Nothing => break to,

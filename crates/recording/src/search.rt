@@ -3,10 +3,11 @@ ghost use mathlib.Core.Path.{_≡_};
 ghost use Rattle.recording.specs.Recording.{deliveriesAfter};
 ghost use Rattle.recording.specs.Stage.{NextSync, searched};
 
-// Where a whole stream stands, and how long it is.
+// Where a whole stream stands, how long it is, and how many of its blocks have unused septet bits set.
 pub struct Span {
     pub place: usize,
     pub length: usize,
+    pub unused_septets: u8,
 }
 
 pub enum Search {
@@ -30,7 +31,7 @@ fn next_sync(input: &[u8], start: usize) -> usize
 
 // The first place from `start` on at which the stretch to the input's end begins with a whole stream.
 pub fn first_whole(input: &[u8], start: usize) -> Search
-    ensures { λ r. ⌜ r ≡ searched (deliveriesAfter (now (input .entry)) start) ⌝ }
+    ensures { λ r. ⌜ r ≡ searched (now (input .entry)) (deliveriesAfter (now (input .entry)) start) ⌝ }
 {
     let mut at = start;
     loop {
@@ -44,6 +45,7 @@ pub fn first_whole(input: &[u8], start: usize) -> Search
             break Search::At(Span {
                 place: at,
                 length: offset,
+                unused_septets: stop.unused_septets,
             });
         }
         at += offset; // to the fault: no byte before it is a sync byte, but it may be one itself

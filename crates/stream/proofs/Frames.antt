@@ -9,11 +9,15 @@ use mathlib.Core.List.{List}
 use lib.ListN.{length, getD, take, drop, length-drop}
 use lib.Seq.{length-take-le}
 use Rattle.checksum.specs.Checksum.{checksumOf}
+use Rattle.septet.specs.Septet.{unusedBits}
 use Rattle.stream.specs.Layout.{kind, streamLength}
 use Rattle.stream.specs.Validation.{frameRule, ruleAt, breach, faultAt}
-use Rattle.stream.specs.Stage.{Clean, Reached, whole, found, frameFault, AllLow, FirstHigh, IsMin, FramesFrom, RightUpTo}
+use Rattle.stream.specs.Stage.{Clean, Reached, whole, ended, found, frameFault, AllLow, FirstHigh, IsMin, FramesFrom, CountedFrom, RightUpTo}
+use Rattle.stream.specs.Unused.{unusedFrames, nonzero, countNonzero, unusedSeptets}
+use Rattle.stream.specs.declared.frame.Passed.{Passed}
 use Rattle.stream.proofs.Faults.{place-any, place-sum, by-place, frameSum-right, frameSum-wrong, frameSum-held, frame-high, frame-low, frame-low-held, frame-part, breach-any, stop-reached}
 use Rattle.stream.proofs.Reached.{through, joined, moved}
+use Rattle.stream.proofs.UnusedSeptets.{nonzero-most, unused-next, frame-fewer}
 
 -- ── one frame by itself
 
@@ -116,11 +120,41 @@ module _ (s : List ℕ) (a width end : ℕ) (frames : FramesFrom s a width end) 
           rules = λ j i h. subst (λ (n : ℕ). ruleAt (kind s) (n + i) ≡ frameRule width i) (omega (arith, mul-suc (width + 2) j)) (frames .rules (suc j) i h);
         }
 
+    next-count : (inside : a + (width + 2) ≤ length s) (clean : Clean (faultAt s) (a + (width + 2))) → frames-next inside clean .count ≡ frames .count - 1
+    unfolding frames-next one-more
+    next-count inside clean = refl
+
+module _ (s : List ℕ) (a width end unused : ℕ) (from : CountedFrom s a width end unused) where
+  -- past the last of them all are counted
+  pub counted-end : end ≤ a → unused ≡ unusedSeptets s
+  unfolding unusedFrames countNonzero
+  counted-end past =
+      let n = from .frames .count in
+      let none : n ≡ 0 = ⊎-elim (λ z. z) (λ pos. absurd (omega (arith, from .frames .ends, frame-fewer width n pos))) (eq-zero-or-pos n) in
+      let zero = ap (λ (n : ℕ). countNonzero (unusedFrames width n (drop a s))) none in
+      omega (arith, from .counted, zero)
+
+  -- the first of them is right: what follows it, with its own counted
+  pub counted-next : a < end → a + (width + 2) ≤ length s → Clean (faultAt s) (a + (width + 2))
+      → CountedFrom s (a + (width + 2)) width end (unused + nonzero (unusedBits width (getD s (a + width) 0)))
+  counted-next more inside clean =
+      let n = from .frames .count in
+      let some = one-more s a width end (from .frames) more .1 in
+      let left = next-count s a width end (from .frames) more inside clean in
+      let rest = ap (λ (m : ℕ). countNonzero (unusedFrames width m (drop (a + (width + 2)) s))) left in
+      record {
+        frames = frames-next s a width end (from .frames) more inside clean;
+        counted = omega (arith, from .counted, rest, unused-next width n s a (omega arith));
+        few = omega (arith, from .few, left, nonzero-most (unusedBits width (getD s (a + width) 0)));
+      }
+
 -- the first of them isn't right: what it brings, or its n bytes up to the input's end, the stream brings
-pub frames-stop : (s : List ℕ) (a width end n : ℕ) {v k : ℕ} → RightUpTo s a width end → a < end → IsMin (width + 2) (length s - a) n
-    → Reached (frameFault width (between s a (a + n))) (width + 2) (length (between s a (a + n))) v k → Reached (faultAt s) (streamLength s) (length s) v (a + k)
-frames-stop s a width end n {v} {k} right more min reached =
-    let frames = right .frames in
+pub frames-stop : (s : List ℕ) (width end n : ℕ) (passed : Passed) {v k : ℕ} → RightUpTo s width end passed → passed .at < end → IsMin (width + 2) (length s - passed .at) n
+    → Reached (frameFault width (between s (passed .at) (passed .at + n))) (width + 2) (length (between s (passed .at) (passed .at + n))) v k
+    → Reached (faultAt s) (streamLength s) (length s) v (passed .at + k)
+frames-stop s width end n passed {v} {k} right more min reached =
+    let a = passed .at in
+    let frames = right .from .frames in
     let inside : a + n ≤ length s = omega (arith, frames .there, min .right) in
     let size = length-part s a (a + n) inside in
     moved (faultAt s) (frameFault width (between s a (a + n))) a (width + 2) (streamLength s) (length s) (length (between s a (a + n))) v k (frames .clean)
@@ -129,3 +163,13 @@ frames-stop s a width end n {v} {k} right more min reached =
     (λ cut. dite (decLt n (length s - a)) (λ less. absurd (omega (arith, min .most (suc n) (omega arith) less))) (λ no. omega arith))
     (λ long clean. right .stops more (omega arith) (first-clean s a width end frames (a + n) (omega arith) .0 clean))
     reached
+
+-- and that is a fault
+pub stop-faulty : (s : List ℕ) (width end : ℕ) (passed : Passed) {v k : ℕ} → RightUpTo s width end passed → passed .at < end
+    → Reached (faultAt s) (streamLength s) (length s) v k → v ≡ 0 → ⊥
+stop-faulty s width end passed right more (whole z o clean inside) w =
+    let frames = right .from .frames in
+    let fits = room s (passed .at) width end frames more in
+    right .stops more (omega (arith, frames .total)) (λ i h. clean i (omega (arith, frames .total)))
+stop-faulty s width end passed right more (ended z o clean below) w = omega arith
+stop-faulty s width end passed right more (found e bad clean below inside) w = omega arith

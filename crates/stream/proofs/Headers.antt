@@ -2,6 +2,7 @@
 use Prim.Native.Nat.{ℕ, _+_, _*_, _-_, _≤_, _<_}
 use native.Mathlib.Omega.{arith}
 use native.Mathlib.Decide.{ℕ-discrete, decLt}
+use native.Mathlib.Nat.{zero-add}
 use mathlib.Core.Path.{_≡_, refl, ap, _∙_, sym, subst⁻¹}
 use mathlib.Core.Logic.{dite}
 use mathlib.Core.List.{List}
@@ -11,7 +12,8 @@ use Rattle.basics.specs.Choice.{choose}
 use Rattle.checksum.specs.Checksum.{checksumOf}
 use Rattle.stream.specs.Layout.{kind, headerLength, frameWidth, frameCount, lengthAs, streamLength}
 use Rattle.stream.specs.Validation.{any, headerSum, headerRule, ruleAt, breach, faultAt}
-use Rattle.stream.specs.Stage.{Clean, Reached, whole, ended, found, ReachedTo, FirstHigh, StoppedAt, AddressClean, AddressCleanAs, ChecksumAt, FramesFrom}
+use Rattle.stream.specs.Stage.{Clean, Reached, whole, ended, found, ReachedTo, FirstHigh, StoppedAt, AddressClean, AddressCleanAs, ChecksumAt, FramesFrom, CountedFrom}
+use Rattle.stream.specs.Unused.{unusedFrames, countNonzero, unusedSeptets}
 use Rattle.stream.specs.declared.Kind.{Kind}
 use Rattle.stream.specs.declared.Kind.the-variants.{Packet, Datagram, Telegram, Unknown}
 use Rattle.stream.specs.declared.Stop.{Stop}
@@ -167,12 +169,22 @@ module _ (K : Kind) (at : ℕ) (ends : EndsAt K at) (s : List ℕ) (sort : Addre
         rules = λ j i h. rw (sort .is, ← (ends .ends)) (rule-frame K j i h);
       }
 
+  -- the first of them, with nothing counted yet
+  pub counted-from : {v k : ℕ} → Reached (faultAt s) (at + 1) (length s) v k → at + 1 ≤ k → frameWidth K ≤ 7 → frameCount K s < 256
+      → countNonzero (unusedFrames (frameWidth K) (frameCount K s) (drop (at + 1) s)) ≡ unusedSeptets s
+      → CountedFrom s (at + 1) (frameWidth K) (at + 1 + (frameWidth K + 2) * frameCount K s) 0
+  unfolding frames-from
+  counted-from reached long narrow few all = record { frames = frames-from reached long narrow; counted = zero-add _ ∙ all; few = omega arith }
+
 -- ── a datagram
 
 -- its header is all of it
 pub datagram-length : (s : List ℕ) → AddressCleanAs s Datagram → streamLength s ≡ 16
 unfolding headerLength frameWidth frameCount
 datagram-length s sort = length-as s Datagram (sort .is)
+
+pub datagram-whole : (s : List ℕ) {v k : ℕ} → AddressCleanAs s Datagram → Reached (faultAt s) 16 (length s) v k → 16 ≤ k → Reached (faultAt s) (streamLength s) (length s) 0 16
+datagram-whole s sort reached long = rw (datagram-length s sort) (whole refl refl (through reached long) (omega (arith, bounded reached)))
 
 -- ── the version
 

@@ -16,7 +16,7 @@ use Rattle.stream.specs.Unused.{unusedSeptets}
 use Rattle.stream.specs.declared.Stop.{Stop}
 use Rattle.stream.specs.declared.Validation.{Validation}
 use Rattle.stream.specs.Validation.{faultAt, verdictAt, validationFrom, validationOf, stopOf}
-use Rattle.stream.specs.Stage.{Clean, Reached, whole, ended, found}
+use Rattle.stream.specs.Stage.{Clean, Reached, whole, ended, found, ReachedTo, Told}
 
 -- ── what is reached is the answer
 
@@ -53,9 +53,6 @@ sound s v k (ended z o clean below) =
     ap₂ (verdictAt s) z o ∙ sym (skip s (length s) clean (omega arith) (omega arith) ∙ rw drop-length (at-end s _ below))
 sound s v k (found e bad clean below inside) =
     ap (λ (n : ℕ). verdictAt s n k) (sym e) ∙ sym (skip s k clean (omega arith) (omega arith) ∙ at-fault s k (omega arith) inside below)
-
-pub stop-sound : (s : List ℕ) (v k : ℕ) → Reached (faultAt s) (streamLength s) (length s) v k → record { verdict = v; offset = k } ≡ stopOf s
-stop-sound s v k reached = ap (λ (x : Validation). record { verdict = x .verdict; offset = x .offset }) (sound s v k reached)
 
 -- ── and the answer is reached
 
@@ -159,17 +156,25 @@ pub faulty-counted : (s : List ℕ) → (validationOf s .verdict ≡ 0 → ⊥) 
 unfolding choose
 faulty-counted s bad = ap (λ (v : Validation). v .«unused_septets») (said-again s) ∙ simp (ne-eqb _ 0 bad)
 
--- ── the verdict and the offset make up the answer with the count
+-- ── what is told
 
-module _ (s : List ℕ) (r : Stop) (told : r ≡ stopOf s) where
-  with-count : (n : ℕ) → n ≡ validationOf s .«unused_septets» → record { verdict = r .verdict; offset = r .offset; «unused_septets» = n } ≡ validationOf s
-  with-count n e = ap₂ (λ (x : Stop) (n : ℕ). record { verdict = x .verdict; offset = x .offset; «unused_septets» = n }) told e
+pub told-sound : (s : List ℕ) (r : Stop) → Told s r → r ≡ stopOf s
+told-sound s r told =
+    let said = sound s (r .verdict) (r .offset) (told .reached) in
+    ap (λ (n : ℕ). record { verdict = r .verdict; «unused_septets» = n; offset = r .offset }) (told .counted)
+    ∙ ap (λ (v : Validation). record { verdict = v .verdict; «unused_septets» = v .«unused_septets»; offset = v .offset }) said
 
-  is : r .verdict ≡ validationOf s .verdict
-  is = ap (λ (x : Stop). x .verdict) told
+-- a fault comes with no unused septets
+pub told-fault : (s : List ℕ) (r : Stop) → ReachedTo s (streamLength s) r → (r .verdict ≡ 0 → ⊥) → r .«unused_septets» ≡ 0 → Told s r
+unfolding choose
+told-fault s r reached faulty none = record { reached = reached; counted = none ∙ sym (simp (ne-eqb (r .verdict) 0 faulty)) }
 
-  pub with-unused : r .verdict ≡ 0 → record { verdict = r .verdict; offset = r .offset; «unused_septets» = unusedSeptets s } ≡ validationOf s
-  with-unused w = with-count (unusedSeptets s) (sym (whole-counted s (sym is ∙ w)))
+pub told-whole : (s : List ℕ) (r : Stop) → ReachedTo s (streamLength s) r → r .verdict ≡ 0 → r .«unused_septets» ≡ unusedSeptets s → Told s r
+unfolding choose
+told-whole s r reached w count = record { reached = reached; counted = count ∙ sym (simp (eq-eqb (r .verdict) 0 w)) }
 
-  pub without-unused : (r .verdict ≡ 0 → ⊥) → record { verdict = r .verdict; offset = r .offset; «unused_septets» = 0 } ≡ validationOf s
-  without-unused faulty = with-count 0 (sym (faulty-counted s (λ w. faulty (is ∙ w))))
+-- what stops before the end is a fault
+pub early-faulty : {fault : ℕ → ℕ} {total n v k : ℕ} → Reached fault total n v k → k < total → v ≡ 0 → ⊥
+early-faulty (whole z o clean inside) short w = omega arith
+early-faulty (ended z o clean below) short w = omega arith
+early-faulty (found e bad clean below inside) short w = omega arith

@@ -1,9 +1,9 @@
 -- Laws of unused septet bits: frame by frame, and how many blocks have them.
-use Prim.Native.Nat.{ℕ, zero, suc, _+_, _-_, _<_, _≤_}
+use Prim.Native.Nat.{ℕ, suc, _+_, _-_, _*_, _<_, _≤_}
 use native.Mathlib.Omega.{arith}
 use native.Mathlib.Decide.{ℕ-discrete}
-use native.Mathlib.Nat.{div-eq-of-lt}
-use mathlib.Core.Path.{_≡_, refl, ap, _∙_}
+use native.Mathlib.Nat.{mul-suc, add-zero}
+use mathlib.Core.Path.{_≡_, refl, sym, ap, _∙_}
 use mathlib.Core.Logic.{dite}
 use mathlib.Core.List.{List, [], _∷_}
 use borrow.Author.Tests.{eq-eqb, ne-eqb}
@@ -13,7 +13,7 @@ use lib.Seq.{getD-drop, drop-drop}
 use Rattle.basics.specs.Bytes.{AllBelow}
 use Rattle.basics.specs.Choice.{choose}
 use Rattle.septet.specs.Septet.{unusedBits}
-use Rattle.stream.specs.Layout.{kind, frameCount}
+use Rattle.stream.specs.Layout.{kind, telegramFrames, frameCount}
 use Rattle.stream.specs.Unused.{unusedFrames, unusedIn, nonzero, countNonzero, unusedSeptets}
 use Rattle.stream.specs.declared.Kind.{Kind}
 use Rattle.stream.specs.declared.Kind.the-variants.{Packet, Datagram, Telegram, Unknown}
@@ -64,31 +64,25 @@ pub unused-next : (width n : ℕ) (s : List ℕ) (from : ℕ) → 0 < n
     ≡ nonzero (unusedBits width (getD s (from + width) 0)) + countNonzero (unusedFrames width (n - 1) (drop (from + (width + 2)) s))
 unused-next width n s from h = unused-step width n (drop from s) h ∙ rw (getD-drop, drop-drop)
 
--- of frames that aren't there none has any
-pub unused-short : (width n : ℕ) (s : List ℕ) → length s ≤ width → countNonzero (unusedFrames width n s) ≡ 0
-unfolding unusedFrames countNonzero
-unused-short width zero s short = refl
-unused-short width (suc n) s short =
-    let here : unusedBits width (getD s width 0) ≡ 0 = rw (List·getD-eq-default s 0 {n = width} short) (div-eq-of-lt (pow-pos width)) in
-    omega (arith, nonzero-zero (unusedBits width (getD s width 0)) here, unused-short width n (drop (width + 2) s) (rw length-drop (omega arith)))
+-- a frame fewer, counted in bytes
+pub frame-fewer : (width n : ℕ) → 0 < n → (width + 2) * n ≡ width + 2 + (width + 2) * (n - 1)
+frame-fewer width n h = let e : n ≡ suc (n - 1) = omega arith in ap (λ (m : ℕ). (width + 2) * m) e ∙ omega (arith, mul-suc (width + 2) (n - 1))
 
 -- ── by the kind
-
-unused-none : (K : Kind) (s : List ℕ) → length s < 15 → countNonzero (unusedIn K s) ≡ 0
-unfolding unusedIn countNonzero
-unused-none Packet s short = unused-short 4 (frameCount Packet s) (drop 10 s) (rw length-drop (omega arith))
-unused-none Datagram s short =
-    let here : unusedBits 6 (getD s 14 0) ≡ 0 = rw (List·getD-eq-default s 0 {n = 14} (omega arith)) in
-    omega (arith, nonzero-zero (unusedBits 6 (getD s 14 0)) here)
-unused-none Telegram s short = unused-short 7 (frameCount Telegram s) (drop 8 s) (rw length-drop (omega arith))
-unused-none Unknown s short = refl
-
--- no septet stands before offset 14
-pub unused-before : (s : List ℕ) → length s < 15 → unusedSeptets s ≡ 0
-unfolding unusedSeptets
-unused-before s short = unused-none (kind s) s short
 
 -- of the kind that a match found
 pub unused-as : (s : List ℕ) (K : Kind) → kind s ≡ K → unusedSeptets s ≡ countNonzero (unusedIn K s)
 unfolding unusedSeptets
 unused-as s K e = ap (λ (x : Kind). countNonzero (unusedIn x s)) e
+
+pub packet-counted : (s : List ℕ) → kind s ≡ Packet → countNonzero (unusedFrames 4 (getD s 8 0) (drop 10 s)) ≡ unusedSeptets s
+unfolding unusedIn frameCount
+packet-counted s e = sym (unused-as s Packet e)
+
+pub datagram-counted : (s : List ℕ) → kind s ≡ Datagram → nonzero (unusedBits 6 (getD s 14 0)) ≡ unusedSeptets s
+unfolding unusedIn countNonzero
+datagram-counted s e = sym (add-zero _) ∙ sym (unused-as s Datagram e)
+
+pub telegram-counted : (s : List ℕ) → kind s ≡ Telegram → countNonzero (unusedFrames 7 (telegramFrames (getD s 6 0)) (drop 8 s)) ≡ unusedSeptets s
+unfolding unusedIn frameCount
+telegram-counted s e = sym (unused-as s Telegram e)

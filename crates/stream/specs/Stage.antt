@@ -2,13 +2,15 @@
 use Prim.Native.Nat.{ℕ, _+_, _-_, _*_, _≤_, _<_}
 use mathlib.Core.Path.{_≡_}
 use mathlib.Core.List.{List}
-use lib.Dec.{leb}
-use lib.ListN.{length, getD}
+use lib.Dec.{leb, eqb}
+use lib.ListN.{length, getD, drop}
 use Rattle.basics.specs.Choice.{choose}
 use Rattle.stream.specs.Layout.{kind, streamLength}
 use Rattle.stream.specs.Validation.{any, headerSum, frameRule, ruleAt, breach, faultAt}
 use Rattle.stream.specs.declared.Kind.{Kind}
+use Rattle.stream.specs.Unused.{unusedFrames, countNonzero, unusedSeptets}
 use Rattle.stream.specs.declared.Stop.{Stop}
+use Rattle.stream.specs.declared.frame.Passed.{Passed}
 
 -- no fault below k
 abbrev pub Clean : (ℕ → ℕ) → ℕ → Type 0
@@ -24,9 +26,10 @@ pub data Reached (fault : ℕ → ℕ) (total n v k : ℕ) : Type 0 where
 abbrev pub ReachedTo : List ℕ → ℕ → Stop → Type 0
 ReachedTo s total r = Reached (faultAt s) total (length s) (r .verdict) (r .offset)
 
--- r is what s brings
-abbrev pub ReachedAll : List ℕ → Stop → Type 0
-ReachedAll s r = ReachedTo s (streamLength s) r
+-- r is what s brings, with the unused septets of a whole stream
+pub record Told (s : List ℕ) (r : Stop) : Type 0 where
+  pub reached : ReachedTo s (streamLength s) r
+  pub counted : r .«unused_septets» ≡ choose (eqb (r .verdict) 0) (unusedSeptets s) 0
 
 -- the fault at place i of a frame of the given width, of which part is what there is
 unfoldable pub frameFault : ℕ → List ℕ → ℕ → ℕ
@@ -78,10 +81,16 @@ pub record FramesFrom (s : List ℕ) (start width end : ℕ) : Type 0 where
   pub total : streamLength s ≡ end
   pub rules : (j i : ℕ) → i < width + 2 → ruleAt (kind s) (start + (width + 2) * j + i) ≡ frameRule width i
 
--- nothing is wrong up to `start`, and the frame there, unless that is the end, is cut off or has a fault
-pub record RightUpTo (s : List ℕ) (start width end : ℕ) : Type 0 where
+-- the same, and of the frames before `start` so many have unused septet bits set
+pub record CountedFrom (s : List ℕ) (start width end unused : ℕ) : Type 0 where
   pub frames : FramesFrom s start width end
-  pub stops : start < end → start + (width + 2) ≤ length s → Clean (faultAt s) (start + (width + 2)) → ⊥
+  pub counted : unused + countNonzero (unusedFrames width (frames .count) (drop start s)) ≡ unusedSeptets s
+  pub few : unused + frames .count < 256
+
+-- nothing is wrong up to where r stands, and the frame there, unless that is the end, is cut off or has a fault
+pub record RightUpTo (s : List ℕ) (width end : ℕ) (r : Passed) : Type 0 where
+  pub from : CountedFrom s (r .at) width end (r .unused)
+  pub stops : r .at < end → r .at + (width + 2) ≤ length s → Clean (faultAt s) (r .at + (width + 2)) → ⊥
 
 -- r is the min of two numbers
 pub record IsMin (a b r : ℕ) : Type 0 where
@@ -94,3 +103,4 @@ pub record StoppedAt (s : List ℕ) (stop : ℕ) (r : Stop) : Type 0 where
   pub here : r .offset ≡ stop
   pub high : stop < length s → r .verdict ≡ 2
   pub ends : length s ≤ stop → r .verdict ≡ 7
+  pub none : r .«unused_septets» ≡ 0

@@ -78,9 +78,9 @@ validationFrom s k (byte ∷ rest) =
 abbrev pub validationOf : List ℕ → Validation
 validationOf s = validationFrom s 0 s
 
--- the verdict and the offset alone
+-- the same, as it is handed on between crates
 abbrev pub stopOf : List ℕ → Stop
-stopOf s = record { verdict = validationOf s .verdict; offset = validationOf s .offset }
+stopOf s = record { verdict = validationOf s .verdict; «unused_septets» = validationOf s .«unused_septets»; offset = validationOf s .offset }
 
 -- the stretch is V0: it begins with one whole valid stream
 abbrev pub isWhole : List ℕ → Bool

@@ -5,7 +5,7 @@ ghost use mathlib.Core.Bool.{true};
 ghost use mathlib.Core.Logic.{_↔_};
 ghost use lib.ListN.{length, take};
 ghost use Rattle.checksum.specs.Checksum.{checksumOf};
-ghost use Rattle.stream.specs.Stage.{Clean, ReachedFrame, ReachedAll, frameFault, FramesFrom, RightUpTo};
+ghost use Rattle.stream.specs.Stage.{Clean, ReachedFrame, Told, frameFault, CountedFrom, RightUpTo};
 use crate::Stop;
 use crate::Verdict;
 use crate::at;
@@ -13,6 +13,7 @@ use crate::high_bytes::all_low;
 use crate::high_bytes::first_high;
 use crate::high_bytes::min;
 use crate::high_bytes::stopped;
+use crate::unused::in_septet;
 
 // The checksum of a frame's payload bytes and septet, as they came: unused septet bits count.
 fn sum(frame: &[u8], width: usize) -> u8
@@ -50,39 +51,53 @@ fn is_right(frame: &[u8], width: usize) -> bool
     sum(frame, width) == frame[width + 1]
 }
 
-// Passes over frames that are right, and returns where the first stands that isn't, or the end.
-pub fn skip_right(input: &[u8], start: usize, width: usize, end: usize) -> usize
-    requires { ⌜ FramesFrom (now input) start width end ⌝ }
-    ensures { λ r. ⌜ RightUpTo (now (input .entry)) r width end ⌝ }
-{
-    let size = width + 2;
-    let mut a = start;
-    while a < end {
-        let e = a + size;
-        if input.len() < e {
-            return a;
-        }
-        if !is_right(&input[a..e], width) {
-            return a;
-        }
-        a = e;
-    }
-    a
+// How far the frames are right, and how many of them have unused septet bits set.
+pub struct Passed {
+    pub at: usize,
+    pub unused: u8,
 }
 
-// The verdict on a stream that is right up to `a`, where `skip_right` stopped: V0 at the end, else what the frame there brings.
-pub fn validate_from(input: &[u8], a: usize, width: usize, end: usize) -> Stop
-    requires { ⌜ RightUpTo (now input) a width end ⌝ }
-    ensures { λ r. ⌜ ReachedAll (now (input .entry)) r ⌝ }
+// Passes over frames that are right, up to the first that isn't, or to the end.
+pub fn skip_right(input: &[u8], start: usize, width: usize, end: usize) -> Passed
+    requires { ⌜ CountedFrom (now input) start width end 0 ⌝ }
+    ensures { λ r. ⌜ RightUpTo (now (input .entry)) width end r ⌝ }
 {
+    let size = width + 2;
+    let mut at = start;
+    let mut unused: u8 = 0;
+    while at < end {
+        let e = at + size;
+        if input.len() < e {
+            return Passed { at, unused };
+        }
+        if !is_right(&input[at..e], width) {
+            return Passed { at, unused };
+        }
+        unused += in_septet(input[at + width], width);
+        at = e;
+    }
+    Passed { at, unused }
+}
+
+// The verdict on a stream that is right as far as `skip_right` passed: V0 at the end, else what the frame there brings.
+pub fn validate_from(input: &[u8], passed: Passed, width: usize, end: usize) -> Stop
+    requires { ⌜ RightUpTo (now input) width end passed ⌝ }
+    ensures { λ r. ⌜ Told (now (input .entry)) r ⌝ }
+{
+    let a = passed.at;
     if end <= a {
-        return at(Verdict::Whole, a);
+        return Stop {
+            verdict: 0,
+            unused_septets: passed.unused,
+            offset: a,
+        };
     }
     // Not `min(a + (width + 2), ..)`: for that sum the compiler would keep a second counter in the loop of `skip_right`.
     let e = a + min(width + 2, input.len() - a);
     let r = check(&input[a..e], width);
     Stop {
         verdict: r.verdict,
+        unused_septets: 0,
         offset: a + r.offset,
     }
 }

@@ -1,7 +1,8 @@
 // The header behind the version, by the kind of the stream, and what follows it.
+ghost use mathlib.Core.Path.{_≡_};
 ghost use Prim.Native.Nat.{_+_};
 ghost use Rattle.stream.specs.declared.Kind.the-variants.{Packet, Datagram, Telegram};
-ghost use Rattle.stream.specs.Stage.{ReachedTo, ReachedAll, AddressClean, AddressCleanAs, ChecksumAt};
+ghost use Rattle.stream.specs.Stage.{ReachedTo, Told, AddressClean, AddressCleanAs, ChecksumAt};
 use crate::Kind;
 use crate::Stop;
 use crate::Verdict;
@@ -11,11 +12,13 @@ use crate::frame::validate_from;
 use crate::high_bytes::first_high;
 use crate::high_bytes::stopped;
 use crate::telegram_frames;
+use crate::unused::in_septet;
 
 // The verdict on a header whose checksum stands at `place`.
 fn check(input: &[u8], place: usize) -> Stop
     requires { ⌜ ChecksumAt (now input) place ⌝ }
     ensures { λ r. ⌜ ReachedTo (now (input .entry)) (place + 1) r ⌝ }
+    ensures { λ r. ⌜ r .«unused_septets» ≡ 0 ⌝ }
 {
     let end = place + 1;
     let stop = first_high(input, 6, end);
@@ -31,7 +34,7 @@ fn check(input: &[u8], place: usize) -> Stop
 // The verdict on a packet: frames of four bytes, as many as offset 8 says.
 fn packet(input: &[u8]) -> Stop
     requires { ⌜ AddressCleanAs (now input) Packet ⌝ }
-    ensures { λ r. ⌜ ReachedAll (now (input .entry)) r ⌝ }
+    ensures { λ r. ⌜ Told (now (input .entry)) r ⌝ }
 {
     let r = check(input, 9);
     if r.offset < 10 {
@@ -44,7 +47,7 @@ fn packet(input: &[u8]) -> Stop
 // The verdict on a telegram: frames of seven bytes, as many as bits 5-6 of the command say.
 fn telegram(input: &[u8]) -> Stop
     requires { ⌜ AddressCleanAs (now input) Telegram ⌝ }
-    ensures { λ r. ⌜ ReachedAll (now (input .entry)) r ⌝ }
+    ensures { λ r. ⌜ Told (now (input .entry)) r ⌝ }
 {
     let r = check(input, 7);
     if r.offset < 8 {
@@ -54,18 +57,26 @@ fn telegram(input: &[u8]) -> Stop
     validate_from(input, skip_right(input, 8, 7, end), 7, end)
 }
 
-// The verdict on a datagram: the checksum of all before it at 15.
+// The verdict on a datagram: a septet of six bytes at 14, and the checksum of all before it at 15.
 fn datagram(input: &[u8]) -> Stop
     requires { ⌜ AddressCleanAs (now input) Datagram ⌝ }
-    ensures { λ r. ⌜ ReachedAll (now (input .entry)) r ⌝ }
+    ensures { λ r. ⌜ Told (now (input .entry)) r ⌝ }
 {
-    check(input, 15)
+    let r = check(input, 15);
+    if r.offset < 16 {
+        return r;
+    }
+    Stop {
+        verdict: 0,
+        unused_septets: in_septet(input[14], 6),
+        offset: 16,
+    }
 }
 
 // The verdict on a stream of which nothing below the version is wrong.
 pub fn validate(input: &[u8]) -> Stop
     requires { ⌜ AddressClean (now input) ⌝ }
-    ensures { λ r. ⌜ ReachedAll (now (input .entry)) r ⌝ }
+    ensures { λ r. ⌜ Told (now (input .entry)) r ⌝ }
 {
     match crate::kind_of(input[5]) {
         Kind::Packet => packet(input),

@@ -1,7 +1,6 @@
 // One stream on the wire, validated from its first byte (document 01: judging).
 ghost use mathlib.Core.Path.{_≡_};
 ghost use Rattle.stream.specs.Layout.{kindOf, telegramFrames, payloadLength};
-ghost use Rattle.stream.specs.Unused.{unusedSeptets};
 ghost use Rattle.stream.specs.Validation.{number, stopOf, validationOf};
 
 mod frame;
@@ -60,17 +59,19 @@ pub struct Validation {
     pub unused_septets: usize,
 }
 
-// Where the search for faults stopped: a verdict's number and its offset.
+// The same as a `Validation`, in two registers: no stream has more than 127 blocks.
 pub struct Stop {
     pub verdict: u8,
+    pub unused_septets: u8,
     pub offset: usize,
 }
 
 fn at(verdict: Verdict, offset: usize) -> Stop
-    ensures { λ r. ⌜ r ≡ record { verdict = number verdict; offset = offset } ⌝ }
+    ensures { λ r. ⌜ r ≡ record { verdict = number verdict; «unused_septets» = 0; offset = offset } ⌝ }
 {
     Stop {
         verdict: verdict.number(),
+        unused_septets: 0,
         offset,
     }
 }
@@ -107,7 +108,7 @@ pub fn payload_length(kind: Kind, frames: u8) -> usize
     }
 }
 
-// The first fault of the stream that `input` begins with, or that it is whole.
+// The first fault of the stream that `input` begins with, or that it is whole, with its unused septets.
 pub fn first_fault(input: &[u8]) -> Stop
     ensures { λ r. ⌜ r ≡ stopOf (now (input .entry)) ⌝ }
 {
@@ -124,39 +125,14 @@ pub fn first_fault(input: &[u8]) -> Stop
     header::validate(input)
 }
 
-// How many blocks of the stream that `input` begins with have unused septet bits set, as far as it is there.
-pub fn unused_septets(input: &[u8]) -> usize
-    ensures { λ r. ⌜ r ≡ unusedSeptets (now (input .entry)) ⌝ }
-{
-    // No septet stands before offset 14.
-    if input.len() < 15 {
-        return 0;
-    }
-    match kind_of(input[5]) {
-        Kind::Packet => unused::in_frames(&input[10..], 4, input[8] as usize),
-        Kind::Datagram => unused::in_septet(input[14], 6),
-        Kind::Telegram => unused::in_frames(&input[8..], 7, telegram_frames(input[6] as u16)),
-        Kind::Unknown => 0,
-    }
-}
-
-// The verdict on the stream that `input` begins with. Only a whole stream's unused septet bits are told.
+// The verdict on the stream that `input` begins with. It stops at the first fault.
 pub fn validate(input: &[u8]) -> Validation
     ensures { λ r. ⌜ r ≡ validationOf (now (input .entry)) ⌝ }
 {
     let stop = first_fault(input);
-    let verdict = stop.verdict;
-    let offset = stop.offset;
-    if verdict != 0 {
-        return Validation {
-            verdict,
-            offset,
-            unused_septets: 0,
-        };
-    }
     Validation {
-        verdict,
-        offset,
-        unused_septets: unused_septets(input),
+        verdict: stop.verdict,
+        offset: stop.offset,
+        unused_septets: stop.unused_septets as usize,
     }
 }

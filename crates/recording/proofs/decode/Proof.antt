@@ -29,6 +29,7 @@ deliver-requires c κs =
       within = omega arith;
       whole = sym (ap (λ (v : Stop). v .verdict) told) ∙ c .before .if1 .left;
       sized = ap (λ (v : Stop). v .offset) told;
+      counted = ap (λ (v : Stop). v .«unused_septets») told;
     }
 
 same-length : tie.Need-same-length

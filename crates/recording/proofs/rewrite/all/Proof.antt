@@ -103,7 +103,7 @@ loop-again c =
     let size = found-length s (loop .at) _ found in (
       loop .inv .0 ++ stream,
       rw (length-append, size, loop .inv .1),
-      lent (loop .inv .0) stream (c .before .before .before .before .before .before .before .before .before .before .before .before .args .out .now) (loop .out) (one .last .1 .0) (loop .to) (loop .inv .1) (loop .inv .2) (rw (stretch-record s (loop .at) _ found) at (one .ensures)),
+      lent (loop .inv .0) stream (c .before .before .before .before .before .before .before .before .before .before .before .before .args .out .now) (loop .out) (one .last .1 .1 .0) (loop .to) (loop .inv .1) (loop .inv .2) (rw (stretch-record s (loop .at) _ found) at (one .ensures)),
       found-next s (loop .at) _ found (loop .inv .0) (loop .inv .3),
       found .inside,
       omega arith,

@@ -78,7 +78,7 @@ returns : tie.Need-returns Inv-loop μ-loop
 returns c =
     let s = c .before .before .before .before .args .input .now in
     let at = after-sync s (c .before .before .loop .at) (c .before .next-sync .result) (c .before .next-sync .ensures) in
-    ap searched (sym (after-end s (c .before .next-sync .result) (omega arith)) ∙ sym at ∙ c .before .before .loop .inv)
+    ap (searched s) (sym (after-end s (c .before .next-sync .result) (omega arith)) ∙ sym at ∙ c .before .before .loop .inv)
 
 returns-2 : tie.Need-returns-2 Inv-loop μ-loop
 returns-2 c =
@@ -88,7 +88,7 @@ returns-2 c =
     let at = after-sync s (sync .before .loop .at) r (sync .next-sync .ensures) in
     let answer = rw part at (c .before .before .first-fault .ensures) in
     let here = after-here s r (sym (ap (λ (a : Stop). a .verdict) answer) ∙ c .if2 .taken) in
-    ap (λ (a : Stop). At (record { place = r; length = a .offset })) answer ∙ ap searched (sym here ∙ sym at ∙ sync .before .loop .inv)
+    ap (λ (a : Stop). At (record { place = r; length = a .offset; «unused_septets» = a .«unused_septets» })) answer ∙ ap (searched s) (sym here ∙ sym at ∙ sync .before .loop .inv)
 
 pub first-whole-spec : {M : Type 1} → statement M
 first-whole-spec =

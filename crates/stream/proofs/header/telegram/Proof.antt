@@ -2,8 +2,9 @@
 use native.Mathlib.Omega.{arith}
 use Rattle.stream.specs.Layout.{frameWidth, frameCount}
 use Rattle.stream.specs.declared.Kind.the-variants.{Telegram}
-use Rattle.stream.proofs.Headers.{telegram-ends, checksum-at, header-within, frames-from}
-use Rattle.stream.proofs.Reached.{early, bounded}
+use Rattle.stream.proofs.Headers.{telegram-ends, checksum-at, header-within, counted-from}
+use Rattle.stream.proofs.Reached.{early, early-faulty, bounded, told-fault}
+use Rattle.stream.proofs.UnusedSeptets.{telegram-counted}
 use borrow.Author.Needs.{needs}
 use Rattle.stream.proofs.header.telegram.Statement.{statement}
 use Rattle.stream.proofs.header.telegram.Tie as tie
@@ -12,10 +13,12 @@ check-requires : tie.Need-check-requires
 check-requires c κs = checksum-at Telegram 7 telegram-ends _ (c .before .pre) (omega arith) (omega arith)
 
 returns : tie.Need-returns
-returns c = early (c .before .before .check .ensures) (c .if1 .taken) (header-within Telegram 7 telegram-ends _ (c .before .before .before .before .pre))
+returns c =
+    let check = c .before .before .check .ensures in
+    told-fault _ _ (early (check .0) (c .if1 .taken) (header-within Telegram 7 telegram-ends _ (c .before .before .before .before .pre))) (early-faulty (check .0) (c .if1 .taken)) (check .1)
 
 shared-slice-read-telegram-frames : tie.Need-shared-slice-read-telegram-frames
-shared-slice-read-telegram-frames c = omega (arith, bounded (c .before .before .before .check .ensures))
+shared-slice-read-telegram-frames c = omega (arith, bounded (c .before .before .before .check .ensures .0))
 
 cast-telegram-frames : tie.Need-cast-telegram-frames
 cast-telegram-frames c = omega (arith, c .shared-slice-known2 .given 6)
@@ -32,8 +35,10 @@ add-end c = omega (arith, c .telegram-frames .ensures)
 skip-right-requires : tie.Need-skip-right-requires
 unfolding frameWidth frameCount
 skip-right-requires c κs =
+    let sort = c .before .before .before .before .before .before .pre in
     rw (c .telegram-frames .ensures)
-    (frames-from Telegram 7 telegram-ends _ (c .before .before .before .before .before .before .pre) (c .before .before .before .before .check .ensures) (omega arith) (omega arith))
+    (counted-from Telegram 7 telegram-ends _ sort (c .before .before .before .before .check .ensures .0) (omega arith) (omega arith)
+    (omega arith) (telegram-counted _ (sort .is)))
 
 validate-from-requires : tie.Need-validate-from-requires
 validate-from-requires c κs = c .skip-right .ensures

@@ -1,6 +1,8 @@
 -- `stream::header::validate` meets its contract: the kind that the version names is the stream's. Assumes nothing.
-use mathlib.Core.Path.{sym, _∙_}
+use native.Mathlib.Omega.{arith}
+use mathlib.Core.Path.{refl, sym, _∙_}
 use Rattle.stream.proofs.Headers.{version-unknown}
+use Rattle.stream.proofs.Reached.{told-fault}
 use borrow.Author.Needs.{needs}
 use Rattle.stream.proofs.header.validate.Statement.{statement}
 use Rattle.stream.proofs.header.validate.Tie as tie
@@ -49,7 +51,9 @@ returns-3 c = search needs
 
 returns-4 : tie.Need-returns-4
 returns-4 c =
-    rw (c .at .ensures) (version-unknown _ (c .before .before .before .before .before .before .pre) (sym (c .before .before .before .kind-of .ensures) ∙ c .before .enum-told4 .given .1))
+    rw (c .at .ensures)
+    (told-fault _ _ (version-unknown _ (c .before .before .before .before .before .before .pre) (sym (c .before .before .before .kind-of .ensures) ∙ c .before .enum-told4 .given .1))
+    (λ e. omega arith) refl)
 
 pub validate-spec : {M : Type 1} → statement M
 validate-spec =
