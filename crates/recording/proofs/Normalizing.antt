@@ -1,21 +1,23 @@
 -- Demand 3 on lists: a normalized recording delivers the same records.
 use Prim.Native.Nat.{ℕ, _+_, _-_, _≤_}
 use native.Mathlib.Omega.{arith}
-use native.Mathlib.Nat.{sub-zero}
+use native.Mathlib.Decide.{ℕ-discrete}
+use native.Mathlib.Nat.{sub-zero, eq-zero-or-pos}
 use mathlib.Core.Path.{_≡_, refl, sym, ap, _∙_}
-use mathlib.Core.Logic.{_↔_}
+use mathlib.Core.Logic.{_↔_, ⊎-elim, dite}
 use mathlib.Core.List.{List, [], _∷_, _++_}
 use lib.ListN.{length, drop, length-append, length-drop}
-use lib.Seq.{drop-at}
+use lib.Seq.{drop-at, drop-drop}
 use Rattle.stream.specs.Validation.{validationOf}
 use Rattle.stream.specs.declared.Validation.{Validation}
+use Rattle.stream.proofs.Reached.{faulty-counted}
 use Rattle.record.specs.Encode.{Writable}
 use Rattle.record.specs.Record.{Record, recordOf, streamOf}
 use Rattle.record.proofs.ReadBack.{read-back}
 use Rattle.record.proofs.WholeAgain.{whole-writable, whole-length}
 use Rattle.recording.specs.Normalize.{streams, normalized}
 use Rattle.recording.specs.Recording.{deliveriesFrom, deliveriesAfter, contentsOf, records}
-use Rattle.recording.proofs.Deliveries.{Whole, whole-long, first-whole, after-ind, contents-moved}
+use Rattle.recording.proofs.Deliveries.{Whole, whole-long, no-overlap, first-whole, after-ind, contents-moved}
 
 -- a written stream delivers its record, and then what is behind it
 records-stream : (r : Record) → Writable r → (t : List ℕ) → records (streamOf r ++ t) ≡ r ∷ records t
@@ -53,6 +55,32 @@ normalized-again s = ap streams (records-normalized s)
 -- equal normalized bytes exactly if the same records were delivered
 pub normalized-same : (a b : List ℕ) → (normalized a ≡ normalized b) ↔ (records a ≡ records b)
 normalized-same a b = ((λ e. sym (records-normalized a) ∙ ap records e ∙ records-normalized b), (λ e. ap streams e))
+
+-- ── no unused septet bits
+
+unused-streams : (rs : List Record) → AllWritable rs → (q : ℕ) → validationOf (drop q (streams rs)) .«unused_septets» ≡ 0
+unfolding streams
+unused-streams [] all q = faulty-counted (drop q []) (λ w. omega (arith, whole-long (drop q []) w, length-drop {A = ℕ} q []))
+unused-streams (r ∷ rest) all q =
+    let s = streamOf r ++ streams rest in
+    let verdict = read-back r (all .0) (streams rest) .0 in
+    let size : validationOf s .offset ≡ length (streamOf r) = ap (λ (v : Validation). v .offset) verdict in
+    dite (ℕ-discrete (validationOf (drop q s) .verdict) 0)
+    (λ w. ⊎-elim
+    (λ first. rw first (ap (λ (v : Validation). v .«unused_septets») verdict))
+    (λ behind.
+    let n = length (streamOf r) in
+    let past = no-overlap s 0 q (ap (λ (v : Validation). v .verdict) verdict) w behind in
+    let place : n + (q - n) ≡ q = omega arith in
+    let same : drop q s ≡ drop (q - n) (streams rest) =
+    ap (λ (k : ℕ). drop k s) (sym place) ∙ sym (drop-drop (q - n) n s) ∙ ap (drop (q - n)) (drop-at (streamOf r) (streams rest) n refl) in
+    ap (λ (l : List ℕ). validationOf l .«unused_septets») same ∙ unused-streams rest (all .1) (q - n))
+    (eq-zero-or-pos q))
+    (λ faulty. faulty-counted (drop q s) faulty)
+
+-- at no place of normalized bytes are unused septet bits told
+pub normalized-unused : (s : List ℕ) (q : ℕ) → validationOf (drop q (normalized s)) .«unused_septets» ≡ 0
+normalized-unused s q = unused-streams (records s) (records-writable s) q
 
 -- ── one stream after the other
 

@@ -7,10 +7,11 @@ use mathlib.Core.List.{List, []}
 use lib.ListN.{length, take, drop}
 use lib.Seq.{take-append-seam}
 use Rattle.basics.specs.declared.Written.{Written}
+use Rattle.stream.specs.Validation.{validationOf}
 use Rattle.basics.proofs.Output.{unrefused, answered-fits, output-written}
 use Rattle.recording.specs.Normalize.{streams, normalized, normalizingOf, outputAfter}
 use Rattle.recording.specs.Recording.{records}
-use Rattle.recording.proofs.Normalizing.{records-normalized, normalized-again, normalized-same}
+use Rattle.recording.proofs.Normalizing.{records-normalized, normalized-again, normalized-same, normalized-unused}
 
 -- a run that isn't refused
 abbrev pub Accepted : List ℕ → List ℕ → Type 0
@@ -46,6 +47,10 @@ module _ (s out : List ℕ) (accepted : Accepted s out) where
   -- normalized bytes deliver the same records
   pub run-delivers : records (runBytes s out) ≡ records s
   run-delivers = ap records run-bytes ∙ records-normalized s
+
+  -- and have no unused septet bits
+  pub run-unused : (q : ℕ) → validationOf (drop q (runBytes s out)) .«unused_septets» ≡ 0
+  run-unused q = ap (λ (l : List ℕ). validationOf (drop q l) .«unused_septets») run-bytes ∙ normalized-unused s q
 
 -- normalizing again, given room: not refused, the same bytes and the same number of them
 pub run-again : (s out again : List ℕ) → Accepted s out → length (runBytes s out) ≤ length again

@@ -14,6 +14,7 @@ use crate::high_bytes::first_high;
 use crate::high_bytes::min;
 use crate::high_bytes::stopped;
 use crate::unused::in_septet;
+use crate::whole_stream;
 
 // The checksum of a frame's payload bytes and septet, as they came: unused septet bits count.
 fn sum(frame: &[u8], width: usize) -> u8
@@ -86,11 +87,7 @@ pub fn validate_from(input: &[u8], passed: Passed, width: usize, end: usize) -> 
 {
     let a = passed.at;
     if end <= a {
-        return Stop {
-            verdict: 0,
-            unused_septets: passed.unused,
-            offset: a,
-        };
+        return whole_stream(a, passed.unused);
     }
     // Not `min(a + (width + 2), ..)`: for that sum the compiler would keep a second counter in the loop of `skip_right`.
     let e = a + min(width + 2, input.len() - a);

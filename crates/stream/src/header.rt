@@ -13,6 +13,7 @@ use crate::high_bytes::first_high;
 use crate::high_bytes::stopped;
 use crate::telegram_frames;
 use crate::unused::in_septet;
+use crate::whole_stream;
 
 // The verdict on a header whose checksum stands at `place`.
 fn check(input: &[u8], place: usize) -> Stop
@@ -66,11 +67,7 @@ fn datagram(input: &[u8]) -> Stop
     if r.offset < 16 {
         return r;
     }
-    Stop {
-        verdict: 0,
-        unused_septets: in_septet(input[14], 6),
-        offset: 16,
-    }
+    whole_stream(16, in_septet(input[14], 6))
 }
 
 // The verdict on a stream of which nothing below the version is wrong.

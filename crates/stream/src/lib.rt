@@ -76,6 +76,17 @@ fn at(verdict: Verdict, offset: usize) -> Stop
     }
 }
 
+// A whole stream of that length.
+fn whole_stream(length: usize, unused_septets: u8) -> Stop
+    ensures { λ r. ⌜ r ≡ record { verdict = 0; «unused_septets» = «unused_septets»; offset = length } ⌝ }
+{
+    Stop {
+        verdict: Verdict::Whole.number(),
+        unused_septets,
+        offset: length,
+    }
+}
+
 // A stream's kind, by its version byte.
 pub fn kind_of(version: u8) -> Kind
     ensures { λ r. ⌜ r ≡ kindOf version ⌝ }

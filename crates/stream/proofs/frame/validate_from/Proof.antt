@@ -7,10 +7,14 @@ use Rattle.stream.proofs.Frames.{frames-stop, stop-faulty, frames-end, 
 use Rattle.stream.proofs.frame.validate_from.Statement.{statement}
 use Rattle.stream.proofs.frame.validate_from.Tie as tie
 
+whole-stream-requires : tie.Need-whole-stream-requires
+whole-stream-requires c κs = search needs
+
 returns : tie.Need-returns
 returns c =
-    let from = c .before .before .pre .from in
-    told-whole _ _ (frames-end _ _ _ _ (from .frames) (c .if1 .taken)) refl (counted-end _ _ _ _ _ from (c .if1 .taken))
+    let from = c .before .before .before .pre .from in
+    let end = c .before .if1 .taken in
+    rw (c .whole-stream .ensures) (told-whole _ _ (frames-end _ _ _ _ (from .frames) end) refl (counted-end _ _ _ _ _ from end))
 
 add-min : tie.Need-add-min
 add-min c = omega (arith, c .before .before .pre .from .frames .narrow)
@@ -54,6 +58,7 @@ pub validate-from-spec : {M : Type 1} → statement M
 validate-from-spec =
     tie.close
     (tie.spec
+    whole-stream-requires
     returns
     add-min
     sub-min

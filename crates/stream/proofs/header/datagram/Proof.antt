@@ -24,13 +24,17 @@ shared-slice-read-in-septet c = omega (arith, bounded (c .before .before .before
 in-septet-requires : tie.Need-in-septet-requires
 in-septet-requires c κs = search needs
 
+whole-stream-requires : tie.Need-whole-stream-requires
+whole-stream-requires c κs = search needs
+
 returns-2 : tie.Need-returns-2
 returns-2 c =
-    let sort = c .before .before .before .before .before .before .pre in
-    told-whole _ _ (datagram-whole _ sort (c .before .before .before .before .check .ensures .0) (omega arith)) refl
-    (c .in-septet .ensures ∙ datagram-counted _ (sort .is))
+    let sort = c .before .before .before .before .before .before .before .pre in
+    rw (c .whole-stream .ensures)
+    (told-whole _ _ (datagram-whole _ sort (c .before .before .before .before .before .check .ensures .0) (omega arith)) refl
+    (c .before .in-septet .ensures ∙ datagram-counted _ (sort .is)))
 
 pub datagram-spec : {M : Type 1} → statement M
 datagram-spec =
     tie.close
-    (tie.spec check-requires returns shared-slice-read-in-septet in-septet-requires returns-2)
+    (tie.spec check-requires returns shared-slice-read-in-septet in-septet-requires whole-stream-requires returns-2)
