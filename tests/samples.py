@@ -72,7 +72,7 @@ def one(name, text, verdict, offset, payload=None, unused=0):
     number, stream = rules.encode(record, offset)
     assert number == 0 and rules.validate(stream) == (0, offset, 0) and rules.decode(stream) == record, name
     assert (stream == s[:offset]) == (unused == 0), name
-    ask("v", name, s, "V0", offset, unused, *told(record), "afresh" if unused else "again")
+    ask("v", name, s, "V0", offset, unused, *told(record), "changed" if unused else "again")
 
 
 def encode(name, record, room, number):
