@@ -171,7 +171,8 @@ def uncovered(whole, bits):
 
 
 def damage():
-    """Each sample cut at every place, with every bit flipped, and with a 0xAA at every place; and faults with right checksums."""
+    """Each sample cut at every place, with every bit flipped, and with a 0xAA at every place; unknown versions, and checksums
+    that leave septets or their unused bits out."""
     r = Recording()
     for sample in SAMPLES:
         whole = one(sample)
@@ -323,8 +324,13 @@ def older():
     r = Recording()
     p = Plant()
     numbers = Numbers(10)
-    anything = lambda: numbers.below(2) * numbers.below(8)
-    everything = lambda: 7
+
+    def anything():
+        return numbers.below(2) * numbers.below(8)
+
+    def everything():
+        return 7
+
     # the fewest and the most bytes, and each value that the unused bits of a packet and a datagram can have
     r.packet(0x0010, 0x4221, 0x0300, b"", everything)
     r.packet(0x0010, 0x4221, 0x0100, numbers.some(508), anything)

@@ -238,24 +238,29 @@ module _ (r : Record) (w : Writable r) where
 
 -- ── exactly
 
--- a stretch begins with a whole stream exactly if it begins with the stream of some writable record with some unused septet bits;
--- that record is read, and as many blocks are counted as have such bits
-pub whole-exactly : (s : List ℕ)
-    → (validationOf s .verdict ≡ 0)
-    ↔ ((r : Record) × (u t : List ℕ) × Writable r × UnusedFor u r × (recordOf s ≡ r) × (validationOf s .«unused_septets» ≡ countNonzero u) × (s ≡ streamWith u r ++ t))
+-- a stretch begins with a whole stream that reads as the record r and has n blocks with unused septet bits set, exactly if the wire can
+-- carry r and the stretch begins with the stream of r with such bits in n blocks
+pub whole-exactly : (s : List ℕ) (r : Record) (n : ℕ)
+    → ((validationOf s .verdict ≡ 0) × (recordOf s ≡ r) × (validationOf s .«unused_septets» ≡ n))
+    ↔ (Writable r × (u : List ℕ) × (t : List ℕ) × UnusedFor u r × (countNonzero u ≡ n) × (s ≡ streamWith u r ++ t))
 unfolding unusedSeptets
-whole-exactly s = (
-  (λ w. (
-    recordOf s,
-    unusedIn (kind s) s,
-    drop (validationOf s .offset) s,
-    whole-writable s w,
-    whole-unused s w,
-    refl,
-    whole-counted s w,
-    sym (ap (λ (l : List ℕ). l ++ drop (validationOf s .offset) s) (whole-again s w) ∙ take-append-drop (validationOf s .offset) s),
-  )),
-  (λ (r, u, t, w, fits, read, count, e). ap (λ (l : List ℕ). validationOf l .verdict) e ∙ ap (λ (v : Validation). v .verdict) (read-with u r w fits t .0)),
+whole-exactly s r n = (
+  (λ (w, read, count).
+      let rest = drop (validationOf s .offset) s in
+      rw (← read) (
+        whole-writable s w,
+        unusedIn (kind s) s,
+        rest,
+        whole-unused s w,
+        sym (whole-counted s w) ∙ count,
+        sym (ap (λ (l : List ℕ). l ++ rest) (whole-again s w) ∙ take-append-drop (validationOf s .offset) s),
+      )),
+  (λ (w, u, t, fits, count, e).
+      let (said, read) = read-with u r w fits t in (
+        ap (λ (l : List ℕ). validationOf l .verdict) e ∙ ap (λ (v : Validation). v .verdict) said,
+        ap recordOf e ∙ read,
+        ap (λ (l : List ℕ). validationOf l .«unused_septets») e ∙ ap (λ (v : Validation). v .«unused_septets») said ∙ count,
+      )),
 )
 
 -- request No. 3: "reading and then writing gives back the same bytes only where no bit strayed", and there it does
@@ -280,16 +285,18 @@ refused-unwritable r room p q s w e =
 module _ (s t : List ℕ) where
   pub whole-more : validationOf s .verdict ≡ 0 → (validationOf (s ++ t) ≡ validationOf s) × (recordOf (s ++ t) ≡ recordOf s)
   whole-more whole =
-      let (r, u, rest, w, fits, read, count, e) = whole-exactly s .0 whole in
+      let r = recordOf s in
+      let (w, u, rest, fits, count, e) = whole-exactly s r _ .0 (whole, refl, refl) in
       let more : s ++ t ≡ streamWith u r ++ (rest ++ t) = ap (λ (l : List ℕ). l ++ t) e ∙ append-assoc (streamWith u r) rest t in (
         ap validationOf more ∙ read-with u r w fits (rest ++ t) .0 ∙ sym (ap validationOf e ∙ read-with u r w fits rest .0),
-        ap recordOf more ∙ read-with u r w fits (rest ++ t) .1 ∙ sym read,
+        ap recordOf more ∙ read-with u r w fits (rest ++ t) .1,
       )
 
   -- all of it is its own bytes
   pub whole-alone : validationOf (s ++ t) .verdict ≡ 0 → validationOf (s ++ t) .offset ≡ length s → validationOf s .verdict ≡ 0
   whole-alone whole sized =
-      let (r, u, rest, w, fits, read, count, e) = whole-exactly (s ++ t) .0 whole in
+      let r = recordOf (s ++ t) in
+      let (w, u, rest, fits, count, e) = whole-exactly (s ++ t) r _ .0 (whole, refl, refl) in
       let told = ap validationOf e ∙ read-with u r w fits rest .0 in
       let long : length (streamWith u r) ≡ length s = sym (ap (λ (v : Validation). v .offset) told) ∙ sized in
       let same : s ≡ streamWith u r ++ [] =

@@ -36,3 +36,10 @@ unused-two : streamWith (1 ∷ 0 ∷ 6 ∷ []) (packet (0xE8 ∷ 0x03 ∷ 0xF4 �
     ∷ 0x68 ∷ 0x03 ∷ 0x74 ∷ 0x01 ∷ 0x15 ∷ 0x0A ∷ 0x07 ∷ 0x04 ∷ 0x0F ∷ 0x00 ∷ 0x00 ∷ 0x65 ∷ 0x00 ∷ 0x7F ∷ 0x7F ∷ 0x12 ∷ 0x63 ∷ 0x0C ∷ []
 unfolding packet streamWith streamAs kindBytes framed kindOf frameWidth framesOf septetOf lowBits checksumFrom choose
 unused-two = refl
+
+-- D1 with bit 6 of its septet set
+unused-datagram : streamWith (1 ∷ [])
+    (record { header = record { version = 0x20; destination = 0x0020; source = 0x1911; command = 0x0100 }; payload = 0 ∷ 0 ∷ 0 ∷ 0 ∷ 0 ∷ 0 ∷ [] })
+    ≡ 0xAA ∷ 0x20 ∷ 0x00 ∷ 0x11 ∷ 0x19 ∷ 0x20 ∷ 0x00 ∷ 0x01 ∷ 0x00 ∷ 0x00 ∷ 0x00 ∷ 0x00 ∷ 0x00 ∷ 0x00 ∷ 0x40 ∷ 0x54 ∷ []
+unfolding streamWith streamAs kindBytes framed kindOf frameWidth framesOf septetOf lowBits checksumFrom choose
+unused-datagram = refl

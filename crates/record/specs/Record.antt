@@ -102,7 +102,8 @@ streamOf r = streamWith [] r
 
 -- ── which unused septet bits there can be
 
--- the payload bytes of a block: as many of its septet's seven bits are in use
+-- the payload bytes of a block: as many of its septet's seven bits are in use, so bits 4-6 of a packet's and bit 6 of a datagram's aren't;
+-- a record of no kind has no block
 unfoldable pub blockWidth : Kind → ℕ
 blockWidth Packet = 4
 blockWidth Datagram = 6
@@ -116,10 +117,12 @@ blockCount Datagram frames = 1
 blockCount Telegram frames = frames
 blockCount Unknown frames = 0
 
--- a number for each block at most, that its septet has room for: of a record that is taken as one of a kind
+-- the unused bits of a record's blocks, as numbers: no more of them than blocks, each within the septet's seven bits;
+-- of a record that is taken as one of a kind
 pub record UnusedAs (K : Kind) (unused : List ℕ) (r : Record) : Type 0 where
   pub few : length unused ≤ blockCount K (framesIn K r)
   pub small : AllBelow (2 ^ (7 - blockWidth K)) unused
 
+-- and of a record by its own version
 abbrev pub UnusedFor : List ℕ → Record → Type 0
 UnusedFor unused r = UnusedAs (kindOf (r .header .version)) unused r

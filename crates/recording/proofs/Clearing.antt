@@ -1,8 +1,7 @@
 -- Laws of clearing: a whole stream without its unused septet bits is what writing gives for its record.
-use Prim.Native.Nat.{ℕ, _+_, _-_, _*_, _%_, _^_, _<_, _≤_}
+use Prim.Native.Nat.{ℕ, _+_, _-_, _*_, _%_, _<_, _≤_}
 use native.Mathlib.Omega.{arith}
-use native.Mathlib.Numerals.{add-one}
-use mathlib.Core.Path.{_≡_, refl, sym, ap, ap₂, subst, _∙_}
+use mathlib.Core.Path.{_≡_, refl, sym, ap, subst, _∙_}
 use mathlib.Core.List.{List, [], _∷_, _++_, append-assoc}
 use lib.ListN.{length, getD, take, drop, set, length-set, length-append, length-drop, take-append-drop}
 use lib.Seq.{set-split, take-at, drop-at, drop-cons, drop-set-lt, getD-drop, length-take-le, take-length}
@@ -20,9 +19,9 @@ use Rattle.stream.proofs.Whole.{HeaderSum}
 use Rattle.record.specs.Record.{withChecksum, withSeptet, framed, unframed, recordOf, streamOf}
 use Rattle.record.proofs.Frames.{withSeptet-rewritten}
 use Rattle.record.proofs.ReadBack.{rewritten-same, whole-more}
-use Rattle.record.proofs.StreamParts.{length-withChecksum, sum-set}
+use Rattle.record.proofs.StreamParts.{sum-set}
 use Rattle.record.proofs.WholeAgain.{whole-parts, whole-length, packet-again, datagram-again, telegram-unused}
-use Rattle.recording.specs.Stage.{OneStream, LowTo, cleared}
+use Rattle.recording.specs.Stage.{LowTo, cleared}
 use Rattle.recording.proofs.Deliveries.{Whole, whole-sync, whole-long}
 
 -- ── one septet
@@ -102,7 +101,7 @@ module _ (s : List ℕ) (w : Whole s) where
       ∙ ap (λ (l : List ℕ). over l s) (sym (datagram-again s w e))
 
   -- without unused bits nothing is to be cleared
-  pub same-cleared : validationOf s .«unused_septets» ≡ 0 → s ≡ over (streamOf (recordOf s)) s
+  same-cleared : validationOf s .«unused_septets» ≡ 0 → s ≡ over (streamOf (recordOf s)) s
   same-cleared none =
       begun (validationOf s .offset) (whole-long s w .1) ∙ ap (λ (l : List ℕ). over l s) (sym (rewritten-same s w .1 none))
 

@@ -78,7 +78,7 @@ unused-streams (r ∷ rest) all q =
     (eq-zero-or-pos q))
     (λ faulty. faulty-counted (drop q s) faulty)
 
--- at no place of normalized bytes are unused septet bits told
+-- at no place of normalized bytes is a block with unused septet bits counted
 pub normalized-unused : (s : List ℕ) (q : ℕ) → validationOf (drop q (normalized s)) .«unused_septets» ≡ 0
 normalized-unused s q = unused-streams (records s) (records-writable s) q
 

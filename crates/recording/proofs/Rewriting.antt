@@ -36,7 +36,7 @@ module _ (s : List ℕ) (start : ℕ) (span : Span) (found : FoundAt s start spa
   abbrev stretch : List ℕ
   stretch = take (span .place + span .length - span .place) (drop (span .place) s)
 
-  pub stretch-length : length stretch ≡ span .length
+  stretch-length : length stretch ≡ span .length
   stretch-length =
       length-take-le (span .place + span .length - span .place) (drop (span .place) s) (omega (arith, length-drop (span .place) s, found .inside))
       ∙ omega arith

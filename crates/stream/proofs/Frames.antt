@@ -107,7 +107,7 @@ module _ (s : List ℕ) (a width end : ℕ) (frames : FramesFrom s a width end) 
     room = omega (arith, frames .ends, ap (λ (n : ℕ). (width + 2) * n) (one-more .1), mul-suc (width + 2) (one-more .0))
 
     -- the first of them is right: what follows it
-    pub frames-next : a + (width + 2) ≤ length s → Clean (faultAt s) (a + (width + 2)) → FramesFrom s (a + (width + 2)) width end
+    frames-next : a + (width + 2) ≤ length s → Clean (faultAt s) (a + (width + 2)) → FramesFrom s (a + (width + 2)) width end
     frames-next inside clean =
         record {
           there = inside;

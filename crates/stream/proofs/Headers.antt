@@ -156,7 +156,7 @@ module _ (K : Kind) (at : ℕ) (ends : EndsAt K at) (s : List ℕ) (sort : Addre
   pub header-within : at + 1 ≤ streamLength s
   header-within = omega (arith, ends .ends, length-as s K (sort .is))
 
-  pub frames-from : {v k : ℕ} → Reached (faultAt s) (at + 1) (length s) v k → at + 1 ≤ k → frameWidth K ≤ 7 → FramesFrom s (at + 1) (frameWidth K) (at + 1 + (frameWidth K + 2) * frameCount K s)
+  frames-from : {v k : ℕ} → Reached (faultAt s) (at + 1) (length s) v k → at + 1 ≤ k → frameWidth K ≤ 7 → FramesFrom s (at + 1) (frameWidth K) (at + 1 + (frameWidth K + 2) * frameCount K s)
   frames-from reached long narrow =
       record {
         there = omega (arith, bounded reached);
@@ -179,7 +179,7 @@ module _ (K : Kind) (at : ℕ) (ends : EndsAt K at) (s : List ℕ) (sort : Addre
 -- ── a datagram
 
 -- its header is all of it
-pub datagram-length : (s : List ℕ) → AddressCleanAs s Datagram → streamLength s ≡ 16
+datagram-length : (s : List ℕ) → AddressCleanAs s Datagram → streamLength s ≡ 16
 unfolding headerLength frameWidth frameCount
 datagram-length s sort = length-as s Datagram (sort .is)
 

@@ -7,8 +7,7 @@ use mathlib.Core.Path.{_≡_, refl, sym, ap, _∙_}
 use mathlib.Core.Logic.{dite}
 use mathlib.Core.List.{List, [], _∷_}
 use borrow.Author.Tests.{eq-eqb, ne-eqb}
-use lib.ListN.{length, getD, drop, length-drop, List·getD-eq-default}
-use lib.Pow.{pow-pos}
+use lib.ListN.{length, getD, drop}
 use lib.Seq.{getD-drop, drop-drop}
 use Rattle.basics.specs.Bytes.{AllBelow}
 use Rattle.basics.specs.Choice.{choose}
@@ -16,7 +15,7 @@ use Rattle.septet.specs.Septet.{unusedBits}
 use Rattle.stream.specs.Layout.{kind, telegramFrames, frameCount}
 use Rattle.stream.specs.Unused.{unusedFrames, unusedIn, nonzero, countNonzero, unusedSeptets}
 use Rattle.stream.specs.declared.Kind.{Kind}
-use Rattle.stream.specs.declared.Kind.the-variants.{Packet, Datagram, Telegram, Unknown}
+use Rattle.stream.specs.declared.Kind.the-variants.{Packet, Datagram, Telegram}
 
 pub nonzero-zero : (n : ℕ) → n ≡ 0 → nonzero n ≡ 0
 unfolding choose
@@ -53,7 +52,7 @@ count-zeros (n ∷ l) all = omega (arith, nonzero-zero n (omega (arith, all .0))
 -- ── frame by frame
 
 -- one frame fewer
-pub unused-step : (width n : ℕ) (s : List ℕ) → 0 < n
+unused-step : (width n : ℕ) (s : List ℕ) → 0 < n
     → countNonzero (unusedFrames width n s) ≡ nonzero (unusedBits width (getD s width 0)) + countNonzero (unusedFrames width (n - 1) (drop (width + 2) s))
 unfolding unusedFrames countNonzero
 unused-step width n s h = let e : n ≡ suc (n - 1) = omega arith in ap (λ (m : ℕ). countNonzero (unusedFrames width m s)) e

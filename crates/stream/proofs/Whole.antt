@@ -160,10 +160,3 @@ known-below version =
 
     low : {K : Kind} (n : ℕ) → n < 0x80 → eqb version n ≡ true → Known K
     low n small e h = let same = eqb-true version n e in omega arith
-
-pub frameWidth-most : (K : Kind) → frameWidth K ≤ 7
-unfolding frameWidth
-frameWidth-most Packet = omega arith
-frameWidth-most Datagram = omega arith
-frameWidth-most Telegram = omega arith
-frameWidth-most Unknown = omega arith

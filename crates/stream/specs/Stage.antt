@@ -1,4 +1,4 @@
--- What the private functions under `validate` promise, as facts of each offset. No public contract cites this file.
+-- What the private functions under `first_fault` promise, as facts of each offset. No public contract cites this file.
 use Prim.Native.Nat.{ℕ, _+_, _-_, _*_, _≤_, _<_}
 use mathlib.Core.Path.{_≡_}
 use mathlib.Core.List.{List}

@@ -49,7 +49,8 @@ ruleAt kind k =
     choose (ltb k (headerLength kind)) (headerRule kind k)
     (frameRule (frameWidth kind) ((k - headerLength kind) % (frameWidth kind + 2)))
 
--- the verdict's number where the byte at offset k breaks a rule, else 0: V3, V4 and V6
+-- the verdict's number where the byte at offset k breaks a rule, else 0: V3, V4 and V6; request No. 3: "Checksums still cover the bytes
+-- as they came"
 unfoldable pub breach : Rule → List ℕ → ℕ → ℕ
 breach any s k = 0
 breach unknown s k = 3

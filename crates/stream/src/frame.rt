@@ -16,7 +16,7 @@ use crate::high_bytes::stopped;
 use crate::unused::in_septet;
 use crate::whole_stream;
 
-// The checksum of a frame's payload bytes and septet, as they came: unused septet bits count.
+// The checksum of a frame's payload bytes and septet, as they came: unused septet bits are covered too.
 fn sum(frame: &[u8], width: usize) -> u8
     requires { ⌜ width < length (now frame) ⌝ }
     ensures { λ r. ⌜ r ≡ checksumOf (take (width + 1) (now (frame .entry))) ⌝ }

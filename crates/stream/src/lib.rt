@@ -35,7 +35,7 @@ pub enum Verdict {
 }
 
 impl Verdict {
-    // The paper's number: 0 to 7 for V0 to V7.
+    // The paper's number: 0 to 4, 6 and 7.
     pub fn number(self) -> u8
         ensures { λ r. ⌜ r ≡ number self ⌝ }
     {
@@ -51,7 +51,7 @@ impl Verdict {
     }
 }
 
-// A verdict's number, with the offset that it was reached at, and how many blocks of a whole stream have unused septet bits set.
+// A verdict's number, with the offset that it was reached at, and how many blocks of a whole stream have unused septet bits set (0 unless V0).
 #[repr(C)]
 pub struct Validation {
     pub verdict: u8,

@@ -30,7 +30,7 @@ pub extern "C" fn vbus_inject(bytes: &[u8; 7], used: usize, septet: u8) -> Septe
     septet::inject(*bytes, used, septet)
 }
 
-// The verdict on the stream that `input` begins with: 0 to 7 for V0 to V7, with the offset, and how many blocks of a whole stream have
+// The verdict's number (V0 to V7, never 5) on the stream that `input` begins with, the offset, and how many blocks of a whole stream have
 // unused septet bits set.
 #[no_mangle]
 pub extern "C" fn vbus_validate(input: &[u8]) -> Validation

@@ -621,7 +621,7 @@ impl Checker {
     }
 
     /// Packets of every size with unused septet bits in the first frame, the last, every second, all
-    /// and none; and every septet of each kind's block, as of a stream with one block.
+    /// and none; and every septet of each kind's block, in a stream with one block.
     fn every_unused_septet(&mut self) -> Checked<()> {
         for frames in 0..=127 {
             let packet = self.packet_of(frames);

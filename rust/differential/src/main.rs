@@ -176,6 +176,8 @@ fn complete(checker: &mut Checker) -> Checked<()> {
         let count = checker.verdicts[number];
         checker.holds(count > 0, || format!("the verdict V{number} occurs"))?;
     }
+    let count = checker.verdicts[5];
+    checker.holds(count == 0, || "the verdict V5 doesn't occur".into())?;
     let naive = ["naive recordings", "naive records"];
     let classes = naive.into_iter().chain(receiver::RECORDS);
     for class in classes.chain(cases::UNUSED) {

@@ -1,6 +1,6 @@
 -- `clear::frames` meets its contract: after some turns the frames begin with those that are done, and what is left makes up the rest.
 -- Assumes nothing.
-use Prim.Native.Nat.{ℕ, _+_, _-_, _*_, _<_, _≤_}
+use Prim.Native.Nat.{ℕ, _+_, _-_, _*_, _≤_}
 use native.Mathlib.Omega.{arith}
 use mathlib.Core.Path.{_≡_, refl, sym, ap, _∙_}
 use mathlib.Core.List.{List, [], _++_, append-assoc, append-nil}
@@ -11,7 +11,7 @@ use Rattle.basics.proofs.Over.{part, lent}
 use Rattle.septet.specs.Septet.{withTopBits}
 use Rattle.record.specs.Record.{withChecksum, withSeptet, framed, unframed}
 use Rattle.record.proofs.Frames.{rewritten-step}
-use Rattle.recording.specs.Stage.{LowTo, cleared}
+use Rattle.recording.specs.Stage.{cleared}
 use Rattle.recording.proofs.Clearing.{length-cleared, frame-cleared}
 use Rattle.recording.proofs.clear.frames.Statement.{statement}
 use Rattle.recording.proofs.clear.frames.Tie as tie

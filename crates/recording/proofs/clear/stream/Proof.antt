@@ -1,11 +1,11 @@
 -- `clear::stream` meets its contract: by the kind, the frames, the one septet, or nothing. Assumes nothing.
-use Prim.Native.Nat.{ℕ, _*_, _≤_}
+use Prim.Native.Nat.{_*_, _≤_}
 use native.Mathlib.Omega.{arith}
 use mathlib.Core.Path.{_≡_, sym, _∙_}
 use lib.ListN.{length, getD, drop, length-drop}
 use Rattle.basics.proofs.Over.{part}
 use Rattle.stream.specs.Layout.{kind}
-use Rattle.stream.specs.declared.Kind.the-variants.{Packet, Datagram, Telegram, Unknown}
+use Rattle.stream.specs.declared.Kind.the-variants.{Packet, Datagram}
 use Rattle.recording.specs.Stage.{LowTo}
 use Rattle.recording.proofs.Deliveries.{whole-long}
 use Rattle.recording.proofs.Clearing.{packet-held, packet-frames, packet-cleared, datagram-held, datagram-cleared, telegram-cleared, unknown-not}

@@ -1,13 +1,10 @@
 -- `stream::frame::skip_right` meets its contract: what holds before a right frame holds behind it, and the test of a frame is exact. Assumes nothing.
 use borrow.Author.Needs.{needs}
-use Prim.Native.Nat.{ℕ, _+_, _-_}
+use Prim.Native.Nat.{_+_, _-_}
 use native.Mathlib.Omega.{arith}
-use mathlib.Core.Path.{_≡_, sym, ap, subst⁻¹, _∙_}
+use mathlib.Core.Path.{sym, _∙_}
 use mathlib.Core.Bool.{true≢false}
 use borrow.Author.Tests.{not-true, not-false}
-use lib.ListN.{getD}
-use Rattle.septet.specs.Septet.{unusedBits}
-use Rattle.stream.specs.Unused.{nonzero}
 use Rattle.stream.specs.Stage.{CountedFrom}
 use Rattle.stream.proofs.Frames.{length-part, first-clean, counted-next}
 use Rattle.stream.proofs.frame.skip_right.Statement.{statement}
