@@ -59,7 +59,7 @@ pub struct Validation {
     pub unused_septets: usize,
 }
 
-// The same as a `Validation`, in two registers: no stream has more than 127 blocks.
+// The same as a `Validation`, with the count in one byte, as it is handed on between crates: no stream has more than 127 blocks.
 pub struct Stop {
     pub verdict: u8,
     pub unused_septets: u8,

@@ -36,11 +36,5 @@ pub extern "C" fn vbus_inject(bytes: &[u8; 7], used: usize, septet: u8) -> Septe
 pub extern "C" fn vbus_validate(input: &[u8]) -> Validation
     ensures { λ r. ⌜ r ≡ validationOf (now (input .entry)) ⌝ }
 {
-    // Field by field: a copy of the struct would load eight bytes where the verdict's one was stored, and wait for it.
-    let validation = stream::validate(input);
-    Validation {
-        verdict: validation.verdict,
-        offset: validation.offset,
-        unused_septets: validation.unused_septets,
-    }
+    stream::validate(input)
 }
