@@ -9,8 +9,7 @@ ghost use Rattle.record.specs.Record.{recordOf, streamOf, framed, unframed};
 ghost use Rattle.recording.specs.Stage.{LowTo, cleared};
 use stream::Kind;
 
-// Clears the bits of the septet at `place` that `limit`, a power of two, and the powers above it stand for, and writes the checksum of
-// all bytes up to it behind it.
+// Keeps of the septet at `place` the bits below `limit`, a power of two, and writes the checksum of all bytes up to it behind it.
 fn septet(block: &mut [u8], place: usize, limit: u8)
     requires { ⌜ (0 < limit) × (place + 1 < length (now block)) ⌝ }
     ensures { λ r. ⌜ now (block .exit) ≡ over (cleared place limit (now (block .entry))) (now (block .entry)) ⌝ }
