@@ -42,7 +42,7 @@ WORDS = (
 # that a proof's text is unfit for the program, which tells nothing of a fact. A function with no proof of its own has no error but a line.
 ERROR = re.compile(r"[^`]*/must-fail/(?P<edit>[^/]+/[^/]+)/(?P<path>[^:]+):\d+:\d+: error: `(?P<fact>[^`]+)`: (?P<why>.*)")
 REFUSED = re.compile(
-    r"as printed, the two types .*|computed as far as they go, the two types .*|expected type `.*"
+    r"as printed, the two (types|sides) .*|computed as far as they go, the two types .*|expected type `.*"
     r"|`omega`: the (goal|part `[^`]+` of the goal) does not follow .*|`search`: no proof of .*|`rw`: no (occurrence|part) of .*"
     r"|give a proof of that as the last argument, `(simp|rw) L t` .*"
 )
