@@ -45,10 +45,10 @@ threeFramesPayload = bytes 21 0x81828384_85868701_02030405_06078809_8A0B8C0D_8E
 
 -- P1 and D1 with an unused septet bit, and the checksum of the byte as it stands
 abbrev pub p1Unused : List ℕ
-p1Unused = bytes 16 0xAA114410_66100002_01210704_0F001055
+p1Unused = take 14 p1 ++ (0x10 ∷ 0x55 ∷ [])
 
 abbrev pub d1Unused : List ℕ
-d1Unused = bytes 16 0xAA200011_19200001_00000000_00004054
+d1Unused = take 14 d1 ++ (0x40 ∷ 0x54 ∷ [])
 
 -- a packet of three frames: bit 4 is set in the first one's septet, and bits 5 and 6 in the last one's
 abbrev pub threeUnused : List ℕ
@@ -60,7 +60,7 @@ threeClear = bytes 28 0xAA114410_66100002_031F6803_7401051A_07040F00_0065007F_7F
 
 -- T2 with every bit of the septet set: all of them are in use
 abbrev pub t2Septet : List ℕ
-t2Septet = bytes 17 0xAA317710_20302354_38100D36_4623007F_0C
+t2Septet = take 15 t2 ++ (0x7F ∷ 0x0C ∷ [])
 
 -- P1, noise, the first ten bytes of D1, and T2, inside the length that D1 announces
 abbrev pub damaged : List ℕ

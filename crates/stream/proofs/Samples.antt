@@ -1,11 +1,12 @@
 -- Samples of document 01, computed. Every law holds as well of another version number: the samples tie the definitions to the paper.
 use Prim.Native.Nat.{ℕ, zero, suc}
 use mathlib.Core.Path.{_≡_, refl}
-use mathlib.Core.List.{List, [], _∷_, _++_, map}
+use mathlib.Core.List.{List, [], _∷_, _++_, map, flatten}
 use lib.ListN.{replicate}
 use Rattle.basics.specs.Choice.{choose}
 use Rattle.checksum.specs.Checksum.{checksumFrom}
 use Rattle.stream.specs.Layout.{kindOf, headerLength, frameWidth, telegramFrames, frameCount, streamLength}
+use Rattle.stream.specs.declared.Kind.{Kind}
 use Rattle.stream.specs.declared.Kind.the-variants.{Packet, Datagram, Telegram, Unknown}
 use Rattle.stream.specs.Unused.{unusedFrames, unusedIn, countNonzero, unusedSeptets}
 use Rattle.stream.specs.Validation.{frameRule, headerRule, ruleAt, breach, faultAt, validationFrom, validationOf}
@@ -32,3 +33,25 @@ versions = refl
 -- F is bits 5-6 of the command, and no other bit
 frames : map telegramFrames (0x1F ∷ 0x20 ∷ 0x40 ∷ 0x7F ∷ 0x80 ∷ []) ≡ 0 ∷ 1 ∷ 2 ∷ 3 ∷ 0 ∷ []
 frames = refl
+
+-- of streams of one block, each with one of the septets, the unused bits as numbers
+abbrev unusedOf : Kind → List ℕ → List ℕ
+unusedOf K septets = flatten (map (λ (septet : ℕ). unusedIn K (replicate 7 0x20 ++ (0 ∷ 1 ∷ (replicate 5 0 ++ (septet ∷ septet ∷ []))))) septets)
+
+-- bits 4-6 of a packet's septet are unused, bit 6 of a datagram's, none of a telegram's
+unused-packet : unusedOf Packet (0x0F ∷ 0x10 ∷ 0x7F ∷ []) ≡ 0 ∷ 1 ∷ 7 ∷ []
+unfolding unusedIn unusedFrames frameCount flatten
+unused-packet = refl
+
+unused-datagram : unusedOf Datagram (0x3F ∷ 0x40 ∷ 0x7F ∷ []) ≡ 0 ∷ 1 ∷ 1 ∷ []
+unfolding unusedIn flatten
+unused-datagram = refl
+
+unused-telegram : unusedOf Telegram (0x7F ∷ []) ≡ 0 ∷ []
+unfolding unusedIn unusedFrames frameCount flatten
+unused-telegram = refl
+
+-- a block counts once, however many of these bits are set
+counted : countNonzero (0 ∷ 1 ∷ 0 ∷ 7 ∷ []) ≡ 2
+unfolding countNonzero choose
+counted = refl
