@@ -14,7 +14,7 @@ use Rattle.basics.proofs.Bytes.{all-append, getD-below}
 use Rattle.checksum.specs.Checksum.{checksumOf}
 use Rattle.septet.proofs.Laws.{septetWith-unused, withTopBits-septetWith}
 use Rattle.stream.specs.Layout.{kind, headerLength, frameWidth, frameCount, streamLength, payloadLength}
-use Rattle.stream.specs.Unused.{unusedIn, nonzero, countNonzero, unusedSeptets}
+use Rattle.stream.specs.Unused.{blockWidth, blockCount, unusedIn, nonzero, countNonzero, unusedSeptets}
 use Rattle.stream.specs.Validation.{validationOf}
 use Rattle.stream.specs.declared.Validation.{Validation}
 use Rattle.stream.specs.declared.Kind.{Kind}
@@ -24,7 +24,7 @@ use Rattle.stream.proofs.Reached.{clean-whole, whole-counted}
 use Rattle.stream.proofs.UnusedSeptets.{nonzero-none, count-first, count-short}
 use Rattle.stream.proofs.Whole.{WholeStream, HeaderSum, frame-drop, clean-of-whole, known-below}
 use Rattle.record.specs.Encode.{refusal, isUnknown, Writable}
-use Rattle.record.specs.Record.{Record, withChecksum, withSeptet, framed, framesOf, framesIn, addressBytes, kindBytes, streamAs, streamWith, streamOf, recordOf, commandIn, payloadIn, blockWidth, blockCount, UnusedAs, UnusedFor}
+use Rattle.record.specs.Record.{Record, withChecksum, withSeptet, framed, framesOf, framesIn, addressBytes, kindBytes, streamAs, streamWith, streamOf, recordOf, commandIn, payloadIn, UnusedAs, UnusedFor}
 use Rattle.record.proofs.Carried.{Carried, carried-length, kindIn, writable-carried, refusal-unwritable}
 use Rattle.record.proofs.Frames.{withSeptet-below, withChecksum-below, withSeptet-septet, withSeptet-low, withChecksum-block, withChecksum-sum, framed-below, framed-sum, framed-none, unframed-framed, unused-framed}
 use Rattle.record.proofs.StreamParts.{length-withSeptet, length-withChecksum}
@@ -114,7 +114,7 @@ module _ (u : List ℕ) (r : Record) (t : List ℕ) (bytes : AllBelow 256 (r .pa
   payload-read Unknown carried = absurd (true≢false (carried .known))
 
   unused-read : (K : Kind) → UnusedAs K u r → Carried K r → countNonzero (unusedIn K (begun K u r (framesBytes K u r ++ t))) ≡ countNonzero u
-  unfolding unusedIn countNonzero kindBytes framesOf frameWidth frameCount payloadLength blockCount
+  unfolding unusedIn blockWidth blockCount headerLength countNonzero kindBytes framesOf frameWidth frameCount payloadLength
   unused-read Packet fits carried = unused-framed 4 (framesIn Packet r) u (r .payload) t bytes (enough Packet r carried) (fits .few)
   unused-read Datagram fits carried =
       rw (append-assoc, withSeptet-septet (r .payload) _ 6 (carried .sized), septetWith-unused (getD u 0 0) (r .payload) bytes 6 (carried .sized))

@@ -13,7 +13,7 @@ use Rattle.checksum.specs.Checksum.{checksumOf}
 use Rattle.septet.specs.Septet.{withTopBits, unusedBits}
 use Rattle.septet.proofs.Laws.{length-withTopBits, withTopBits-below, unused-below}
 use Rattle.stream.specs.Layout.{kind, headerLength, frameWidth, frameCount, lengthAs, payloadLength, telegramFrames}
-use Rattle.stream.specs.Unused.{unusedIn}
+use Rattle.stream.specs.Unused.{blockWidth, blockCount, unusedIn}
 use Rattle.stream.specs.Validation.{validationOf}
 use Rattle.stream.specs.declared.Kind.{Kind}
 use Rattle.stream.specs.declared.Kind.the-variants.{Packet, Datagram, Telegram, Unknown}
@@ -22,7 +22,7 @@ use Rattle.stream.proofs.Reached.{whole-clean, whole-counted}
 use Rattle.stream.proofs.UnusedSeptets.{unused-as, count-zeros}
 use Rattle.stream.proofs.Whole.{WholeAs, FrameSum, whole-of-clean, drop-frame}
 use Rattle.record.specs.Encode.{isUnknown, InRange, Writable}
-use Rattle.record.specs.Record.{withChecksum, withSeptet, framed, unframed, framesOf, framesIn, addressBytes, kindBytes, streamAs, streamWith, streamOf, recordAs, recordOf, commandIn, payloadIn, blockWidth, blockCount, UnusedAs, UnusedFor}
+use Rattle.record.specs.Record.{withChecksum, withSeptet, framed, unframed, framesOf, framesIn, addressBytes, kindBytes, streamAs, streamWith, streamOf, recordAs, recordOf, commandIn, payloadIn, UnusedAs, UnusedFor}
 use Rattle.record.proofs.Carried.{Carried, CommandLow, carried-length, carried-writable}
 use Rattle.record.proofs.Frames.{take-next, withSeptet-again, withSeptet-rewritten, unframed-length, unframed-below, framed-unframed, unused-length, unused-small}
 
@@ -183,7 +183,7 @@ record KindAgain (K : Kind) (s : List ℕ) : Type 0 where
   sum : getD s (6 + size) 0 ≡ checksumOf (take (5 + size) (drop 1 s))
 
 kind-again : (K : Kind) (s : List ℕ) → WholeAs K s → lengthAs K s ≤ length s → KindAgain K s
-unfolding headerLength kindBytes unusedIn commandIn payloadIn frameCount frameWidth
+unfolding headerLength kindBytes unusedIn blockWidth commandIn payloadIn frameCount frameWidth
 kind-again Packet s whole held =
     let word = word-again (getD s 6 0) (getD s 7 0) (header-low Packet s whole 6 (omega arith) (omega arith)) in
     record {
@@ -225,7 +225,7 @@ header-again K s whole held =
 
 counted-again : (K : Kind) (s : List ℕ) → WholeAs K s → lengthAs K s ≤ length s
     → framed (frameWidth K) (frameCount K s) (unusedIn K s) (payloadIn K s) ≡ take ((frameWidth K + 2) * frameCount K s) (drop (headerLength K) s)
-unfolding headerLength payloadIn frameCount frameWidth framed unusedIn
+unfolding headerLength payloadIn frameCount frameWidth framed unusedIn blockWidth
 counted-again Packet s whole held =
     framed-unframed 4 (getD s 8 0) (drop 10 s) (frames-held Packet s whole held) (frames-low Packet s whole) (frames-right Packet s whole)
 counted-again Datagram s whole held = refl

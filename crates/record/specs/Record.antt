@@ -7,6 +7,7 @@ use Rattle.basics.specs.Words.{wordAt, wordBytes}
 use Rattle.checksum.specs.Checksum.{checksumOf}
 use Rattle.septet.specs.Septet.{lowBits, withTopBits, septetWith}
 use Rattle.stream.specs.Layout.{kindOf, kind, frameWidth, frameCount, telegramFrames}
+use Rattle.stream.specs.Unused.{blockWidth, blockCount}
 use Rattle.stream.specs.declared.Kind.{Kind}
 use Rattle.stream.specs.declared.Kind.the-variants.{Packet, Datagram, Telegram, Unknown}
 use Rattle.record.specs.declared.Header.{Header}
@@ -101,21 +102,6 @@ unfoldable pub streamOf : Record → List ℕ
 streamOf r = streamWith [] r
 
 -- ── which unused septet bits there can be
-
--- the payload bytes of a block: as many of its septet's seven bits are in use, so bits 4-6 of a packet's and bit 6 of a datagram's aren't;
--- a record of no kind has no block
-unfoldable pub blockWidth : Kind → ℕ
-blockWidth Packet = 4
-blockWidth Datagram = 6
-blockWidth Telegram = 7
-blockWidth Unknown = 7
-
--- the blocks of a record, by its frames
-unfoldable pub blockCount : Kind → ℕ → ℕ
-blockCount Packet frames = frames
-blockCount Datagram frames = 1
-blockCount Telegram frames = frames
-blockCount Unknown frames = 0
 
 -- the unused bits of a record's blocks, as numbers: no more of them than blocks, each within the septet's seven bits;
 -- of a record that is taken as one of a kind

@@ -11,7 +11,7 @@ use Rattle.checksum.specs.Checksum.{checksumFrom}
 use Rattle.septet.specs.Septet.{septetOf, lowBits, withTopBits}
 use Rattle.septet.specs.Answer.{anyHigh}
 use Rattle.stream.specs.Layout.{kindOf, headerLength, frameWidth, frameCount, streamLength, payloadLength}
-use Rattle.stream.specs.Unused.{unusedFrames, unusedIn, countNonzero, unusedSeptets}
+use Rattle.stream.specs.Unused.{blockWidth, unusedFrames, unusedIn, countNonzero, unusedSeptets}
 use Rattle.stream.specs.Validation.{frameRule, headerRule, ruleAt, breach, faultAt, validationFrom}
 use Rattle.stream.specs.declared.Verdict.the-variants.{Whole, NoSync, HighByte, UnknownVersion, HeaderChecksum, FrameChecksum, Ended}
 use Rattle.record.specs.Record.{recordOf, unframed, commandIn, payloadIn, framed, framesOf, kindBytes, streamAs, streamWith, streamOf}
@@ -265,5 +265,5 @@ abbrev table : List Row
 table = starred ++ (septets ++ (verdicts ++ (records ++ (recordings ++ (receptions ++ (blockSections ++ verdictNumbers))))))
 
 samples : map (λ (row : Row). answer (row .0)) table ≡ map (λ (row : Row). row .1) table
-unfolding choose signed checksumFrom septetOf lowBits withTopBits anyHigh kindOf headerLength frameWidth frameCount streamLength payloadLength frameRule headerRule ruleAt breach faultAt unusedFrames unusedIn countNonzero unusedSeptets validationFrom recordOf unframed commandIn payloadIn framed framesOf kindBytes streamAs streamWith streamOf unwritable Encodings.refusal deliveriesFrom Nexts.refusal streams roomRefusal beginning extended kept outcomeOf Receptions.refusal cut someShort elementSize notBlock flatten
+unfolding choose signed checksumFrom septetOf lowBits withTopBits anyHigh kindOf headerLength frameWidth frameCount streamLength payloadLength frameRule headerRule ruleAt breach faultAt blockWidth unusedFrames unusedIn countNonzero unusedSeptets validationFrom recordOf unframed commandIn payloadIn framed framesOf kindBytes streamAs streamWith streamOf unwritable Encodings.refusal deliveriesFrom Nexts.refusal streams roomRefusal beginning extended kept outcomeOf Receptions.refusal cut someShort elementSize notBlock flatten
 samples = refl

@@ -8,16 +8,16 @@ use Rattle.checksum.specs.Checksum.{checksumFrom}
 use Rattle.stream.specs.Layout.{kindOf, headerLength, frameWidth, telegramFrames, frameCount, streamLength}
 use Rattle.stream.specs.declared.Kind.{Kind}
 use Rattle.stream.specs.declared.Kind.the-variants.{Packet, Datagram, Telegram, Unknown}
-use Rattle.stream.specs.Unused.{unusedFrames, unusedIn, countNonzero, unusedSeptets}
+use Rattle.stream.specs.Unused.{blockWidth, unusedFrames, unusedIn, countNonzero, unusedSeptets}
 use Rattle.stream.specs.Validation.{frameRule, headerRule, ruleAt, breach, faultAt, validationFrom, validationOf}
 
 -- T1 under each version of a telegram, with its checksum
 telegram : validationOf (0xAA ∷ 0x10 ∷ 0x20 ∷ 0x31 ∷ 0x77 ∷ 0x30 ∷ 0x01 ∷ 0x76 ∷ []) ≡ record { verdict = 0; offset = 8; «unused_septets» = 0 }
-unfolding unusedSeptets unusedIn unusedFrames countNonzero validationFrom streamLength kindOf choose headerLength frameWidth frameCount faultAt breach ruleAt headerRule frameRule checksumFrom
+unfolding unusedSeptets unusedIn blockWidth unusedFrames countNonzero validationFrom streamLength kindOf choose headerLength frameWidth frameCount faultAt breach ruleAt headerRule frameRule checksumFrom
 telegram = refl
 
 telegram-31 : validationOf (0xAA ∷ 0x10 ∷ 0x20 ∷ 0x31 ∷ 0x77 ∷ 0x31 ∷ 0x01 ∷ 0x75 ∷ []) ≡ record { verdict = 0; offset = 8; «unused_septets» = 0 }
-unfolding unusedSeptets unusedIn unusedFrames countNonzero validationFrom streamLength kindOf choose headerLength frameWidth frameCount faultAt breach ruleAt headerRule frameRule checksumFrom
+unfolding unusedSeptets unusedIn blockWidth unusedFrames countNonzero validationFrom streamLength kindOf choose headerLength frameWidth frameCount faultAt breach ruleAt headerRule frameRule checksumFrom
 telegram-31 = refl
 
 -- n numbers, from k on
@@ -40,15 +40,15 @@ unusedOf K septets = flatten (map (λ (septet : ℕ). unusedIn K (replicate 7 0x
 
 -- bits 4-6 of a packet's septet are unused, bit 6 of a datagram's, none of a telegram's
 unused-packet : unusedOf Packet (0x0F ∷ 0x10 ∷ 0x7F ∷ []) ≡ 0 ∷ 1 ∷ 7 ∷ []
-unfolding unusedIn unusedFrames frameCount flatten
+unfolding unusedIn blockWidth headerLength unusedFrames frameCount flatten
 unused-packet = refl
 
 unused-datagram : unusedOf Datagram (0x3F ∷ 0x40 ∷ 0x7F ∷ []) ≡ 0 ∷ 1 ∷ 1 ∷ []
-unfolding unusedIn flatten
+unfolding unusedIn blockWidth flatten
 unused-datagram = refl
 
 unused-telegram : unusedOf Telegram (0x7F ∷ []) ≡ 0 ∷ []
-unfolding unusedIn unusedFrames frameCount flatten
+unfolding unusedIn blockWidth headerLength unusedFrames frameCount flatten
 unused-telegram = refl
 
 -- a block counts once, however many of these bits are set

@@ -12,8 +12,8 @@ use lib.Seq.{getD-drop, drop-drop}
 use Rattle.basics.specs.Bytes.{AllBelow}
 use Rattle.basics.specs.Choice.{choose}
 use Rattle.septet.specs.Septet.{unusedBits}
-use Rattle.stream.specs.Layout.{kind, telegramFrames, frameCount}
-use Rattle.stream.specs.Unused.{unusedFrames, unusedIn, nonzero, countNonzero, unusedSeptets}
+use Rattle.stream.specs.Layout.{kind, headerLength, telegramFrames, frameCount}
+use Rattle.stream.specs.Unused.{blockWidth, unusedFrames, unusedIn, nonzero, countNonzero, unusedSeptets}
 use Rattle.stream.specs.declared.Kind.{Kind}
 use Rattle.stream.specs.declared.Kind.the-variants.{Packet, Datagram, Telegram}
 
@@ -75,13 +75,13 @@ unfolding unusedSeptets
 unused-as s K e = ap (λ (x : Kind). countNonzero (unusedIn x s)) e
 
 pub packet-counted : (s : List ℕ) → kind s ≡ Packet → countNonzero (unusedFrames 4 (getD s 8 0) (drop 10 s)) ≡ unusedSeptets s
-unfolding unusedIn frameCount
+unfolding unusedIn blockWidth headerLength frameCount
 packet-counted s e = sym (unused-as s Packet e)
 
 pub datagram-counted : (s : List ℕ) → kind s ≡ Datagram → nonzero (unusedBits 6 (getD s 14 0)) ≡ unusedSeptets s
-unfolding unusedIn countNonzero
+unfolding unusedIn blockWidth countNonzero
 datagram-counted s e = sym (add-zero _) ∙ sym (unused-as s Datagram e)
 
 pub telegram-counted : (s : List ℕ) → kind s ≡ Telegram → countNonzero (unusedFrames 7 (telegramFrames (getD s 6 0)) (drop 8 s)) ≡ unusedSeptets s
-unfolding unusedIn frameCount
+unfolding unusedIn blockWidth headerLength frameCount
 telegram-counted s e = sym (unused-as s Telegram e)
