@@ -35,7 +35,7 @@ unfolding headerRule choose
 telegram-any k h = simp (ne-eqb k 7 (λ e. omega arith))
 
 -- before the version any byte may stand
-address-any : (K : Kind) (k : ℕ) → k < 5 → headerRule K k ≡ any
+pub address-any : (K : Kind) (k : ℕ) → k < 5 → headerRule K k ≡ any
 unfolding headerRule choose
 address-any Packet k h = packet-any k (omega arith)
 address-any Datagram k h = datagram-any k (omega arith)

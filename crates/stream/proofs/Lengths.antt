@@ -55,7 +55,7 @@ module _ (s t : List ℕ) where
 
 -- ── one low byte more
 
-as-low : (K : Kind) (s : List ℕ) → getD s 8 0 < 0x80 → lengthAs K s ≤ 772
+pub as-low : (K : Kind) (s : List ℕ) → getD s 8 0 < 0x80 → lengthAs K s ≤ 772
 unfolding headerLength frameWidth frameCount
 as-low Packet s low = omega arith
 as-low Datagram s low = omega arith

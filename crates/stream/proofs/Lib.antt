@@ -6,4 +6,5 @@ pub mod Headers
 pub mod Lengths
 pub mod Whole
 pub mod Offsets
+pub mod Prefixes
 pub mod Samples

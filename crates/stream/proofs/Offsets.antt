@@ -28,3 +28,16 @@ offset-behind s there sync = by-case _ _ (complete s)
     by-case v k (ended z o clean below) = omega arith
     by-case v k (found e bad clean below inside) =
         ⊎-elim (λ first. absurd (omega (arith, rw first at e, sync-right s sync))) (λ pos. pos) (eq-zero-or-pos k)
+
+-- why a stretch isn't whole, nothing before offset k being wrong: it ends there, before the stream does, or the byte there is at fault
+pub data NotWhole (s : List ℕ) (v k : ℕ) : Type 0 where
+  cut : v ≡ 7 → k ≡ length s → ((i : ℕ) → i < k → faultAt s i ≡ 0) → k < streamLength s → NotWhole s v k
+  broken : faultAt s k ≡ v → 0 < v → ((i : ℕ) → i < k → faultAt s i ≡ 0) → k < streamLength s → k < length s → NotWhole s v k
+
+reached-not-whole : (s : List ℕ) (v k : ℕ) → Reached (faultAt s) (streamLength s) (length s) v k → (v ≡ 0 → ⊥) → NotWhole s v k
+reached-not-whole s v k (whole z o clean inside) bad = absurd (bad z)
+reached-not-whole s v k (ended z o clean below) bad = cut z o (λ i h. clean i (omega arith)) (omega arith)
+reached-not-whole s v k (found e pos clean below inside) bad = broken e pos clean below inside
+
+pub not-whole : (s : List ℕ) → (validationOf s .verdict ≡ 0 → ⊥) → NotWhole s (validationOf s .verdict) (validationOf s .offset)
+not-whole s bad = reached-not-whole s _ _ (complete s) bad

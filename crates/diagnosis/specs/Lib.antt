@@ -1,0 +1,3 @@
+pub mod Fault
+pub mod Reason
+pub mod Stage
