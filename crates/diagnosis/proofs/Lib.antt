@@ -1,3 +1,4 @@
 pub mod Faults
 pub mod Growing
 pub mod Reasons
+pub mod Exactly
