@@ -62,8 +62,7 @@ module _ (s : List ℕ) (q : ℕ) where
 pub fault-exactly : (s : List ℕ) (q room : ℕ) → q ≤ length s → 508 ≤ room
     → ((nextFault s q .found ≡ true) × (nextFault s q .place ≡ q)) ↔ ((getD s q 0 ≡ 0xAA) × ((nextOf s q room .found ≡ true) × (nextOf s q room .place ≡ q) → ⊥))
 fault-exactly s q room within fits =
-    let delivered = next-exactly s q room within fits in
-    (
+    let delivered = next-exactly s q room within fits in (
       (λ told. let (sync, bad) = found-here s q told in (sync, λ record-there. bad (delivered .0 record-there))),
       (λ (sync, none). here-found s q (sync, λ whole. none (delivered .1 whole))),
     )

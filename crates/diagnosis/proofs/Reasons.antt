@@ -100,8 +100,8 @@ module _ (s : List ℕ) (q : ℕ) where
         grows = grown-can (take k t) (taken-grown t k (omega arith) clean below);
         stands = λ has. more;
         stops = λ has g.
-        fault-stays {m = k + 1} (record { begin = more ∙ sym (take-at (take k t ++ (getD t k 0 ∷ [])) (g .0) (k + 1) (sym (ap length more) ∙ length-take-le (k + 1) t (omega arith))) })
-        k (omega arith) (omega (arith, e)) below (g .1 .whole);
+            fault-stays {m = k + 1} (record { begin = more ∙ sym (take-at (take k t ++ (getD t k 0 ∷ [])) (g .0) (k + 1) (sym (ap length more) ∙ length-take-le (k + 1) t (omega arith))) })
+            k (omega arith) (omega (arith, e)) below (g .1 .whole);
         all = λ lacks. absurd (omega (arith, fault-small t k v e, no-byte-seven v lacks));
       }
 
@@ -244,8 +244,8 @@ sums-of s v k (broken e pos clean below inside) =
     record {
       header = λ four. let far = late-of (subst⁻¹ (λ (n : ℕ). hasWanted n ≡ true) four refl) in (omega arith, omega arith);
       frame = λ six.
-      let far = late-of (subst⁻¹ (λ (n : ℕ). hasWanted n ≡ true) six refl) in
-      (omega arith, frame-behind (kind s) rule k (fits (kind s) k) (broken-by rule s v k (breach-of s k v e (omega arith)) pos ∙ six), omega arith);
+          let far = late-of (subst⁻¹ (λ (n : ℕ). hasWanted n ≡ true) six refl) in
+          (omega arith, frame-behind (kind s) rule k (fits (kind s) k) (broken-by rule s v k (breach-of s k v e (omega arith)) pos ∙ six), omega arith);
     }
   where
     rule : Rule

@@ -5,7 +5,6 @@ ghost use lib.ListN.{length, getD, drop};
 ghost use Rattle.stream.specs.Layout.{frameWidth};
 ghost use Rattle.diagnosis.specs.Fault.{hasWanted, wantedAt, faultOf, nextFault};
 ghost use Rattle.diagnosis.specs.Stage.{SaidOf, SumsAt, faultHere};
-
 use stream::Kind;
 
 // A sync byte that gave no record, and why: its place, the verdict on the stretch from there on with its offset, the byte that stands
@@ -78,7 +77,11 @@ fn wanted(stretch: &[u8], verdict: u8, offset: usize) -> u8
 fn byte_at(stretch: &[u8], offset: usize) -> u8
     ensures { λ r. ⌜ r ≡ getD (now (stretch .entry)) offset 0 ⌝ }
 {
-    if offset < stretch.len() { stretch[offset] } else { 0 }
+    if offset < stretch.len() {
+        stretch[offset]
+    } else {
+        0
+    }
 }
 
 // The fault of a stretch that stands at `place`, by the verdict on it.

@@ -24,6 +24,8 @@ use Rattle.receiver.specs.Receive.{receivedOf}
 use Rattle.receiver.specs.Receive as Receptions
 use Rattle.receiver.specs.declared.Receiver.{Receiver}
 use Rattle.receiver.specs.declared.Received.{Received}
+use Rattle.diagnosis.specs.Fault.{nextFault}
+use Rattle.diagnosis.specs.declared.Fault.{Fault}
 use Rattle.sections.specs.Answer.{sectionCount, sectionFound, sectionShown, elementCount, elementFound, elementShown}
 use Rattle.sections.specs.Element.{temperatureOf}
 use Rattle.sections.specs.declared.Count.{Count}
@@ -41,6 +43,7 @@ pub data Question : Type 0 where
   value : List ℕ → Question
   next : List ℕ → ℕ → ℕ → Question
   receive : ℕ → List ℕ → List ℕ → ℕ → Question
+  fault : List ℕ → ℕ → Question
   normalize : List ℕ → ℕ → Question
   sections : Header → List ℕ → Question
   section : Header → List ℕ → ℕ → Question
@@ -84,6 +87,10 @@ holding held = record { held = held }
 abbrev receivedTold : Received → List ℕ
 receivedTold a = a .number ∷ boolTold (a .found) ∷ a .used ∷ a .length ∷ (headerTold (a .header) ++ (a .«payload_length» ∷ a .receiver .held ∷ []))
 
+abbrev faultTold : Fault → List ℕ
+faultTold f =
+    boolTold (f .found) ∷ f .place ∷ f .verdict ∷ f .offset ∷ boolTold (f .«has_byte») ∷ f .byte ∷ boolTold (f .«has_wanted») ∷ f .wanted ∷ []
+
 abbrev countTold : Count → List ℕ
 countTold c = c .number ∷ c .count ∷ []
 
@@ -101,6 +108,7 @@ answer (encode r room) = writtenTold (encodingOf r room) ++ Encodings.outputAfte
 answer (value payload) = signedTold (valueOf payload)
 answer (next s start room) = nextTold (nextOf s start room) ++ payloadAfter s start (untouched room)
 answer (receive held memory chunk room) = receivedTold (receivedOf (holding held) memory chunk room) ++ Receptions.outputAfter (holding held) memory chunk (untouched room)
+answer (fault s start) = faultTold (nextFault s start)
 answer (normalize s room) = writtenTold (normalizingOf s room) ++ Normals.outputAfter s (untouched room)
 answer (sections h payload) = countTold (sectionCount h payload)
 answer (section h payload k) = partTold (sectionFound h payload k) ++ sectionShown h payload k

@@ -24,10 +24,11 @@ use Rattle.recording.specs.Decode.{beginning}
 use Rattle.receiver.specs.Holding.{extended, kept}
 use Rattle.receiver.specs.Receive.{outcomeOf}
 use Rattle.receiver.specs.Receive as Receptions
+use Rattle.diagnosis.specs.Fault.{wantedAt, faultsFrom, nextFault}
 use Rattle.sections.specs.Section.{cut, someShort}
 use Rattle.sections.specs.Element.{elementSize}
 use Rattle.sections.specs.Answer.{notBlock}
-use Rattle.samples.proofs.Questions.{Question, checksum, extract, inject, validate, read, carry, encode, value, next, receive, normalize, sections, section, elements, element, temperature, verdict, untouched, answer}
+use Rattle.samples.proofs.Questions.{Question, checksum, extract, inject, validate, read, carry, encode, value, next, receive, fault, normalize, sections, section, elements, element, temperature, verdict, untouched, answer}
 use Rattle.samples.proofs.Samples.{bytes, recorded, p1, d1, t1, t2, p1Unused, d1Unused, threeUnused, threeClear, t2Septet, twoFrames, sixTopBits, threeFrames, threeFramesPayload, damaged, packet, datagram, telegram, blockHeader, example, eachType}
 
 -- a question and the answer that the papers give
@@ -205,6 +206,46 @@ receptions =
     ∷ (receive 5 (bytes 5 0xAA102031_77) (0x11 ∷ []) 508, noneReceived 0 1 0 508)
     ∷ []
 
+-- a fault that was found: place, verdict and offset; then the byte there; for a wrong checksum also the byte wanted
+abbrev endedAt : ℕ → ℕ → List ℕ
+endedAt place offset = 1 ∷ place ∷ 7 ∷ offset ∷ replicate 4 0
+
+abbrev brokenAt : ℕ → ℕ → ℕ → ℕ → List ℕ
+brokenAt place v offset byte = 1 ∷ place ∷ v ∷ offset ∷ 1 ∷ byte ∷ 0 ∷ 0 ∷ []
+
+abbrev wrongSum : ℕ → ℕ → ℕ → ℕ → ℕ → List ℕ
+wrongSum place v offset byte wanted = 1 ∷ place ∷ v ∷ offset ∷ 1 ∷ byte ∷ 1 ∷ wanted ∷ []
+
+abbrev noFault : List ℕ
+noFault = replicate 8 0
+
+abbrev faults : List Row
+faults =
+    (fault (d1 ++ t1 0x77) 0, wrongSum 16 4 7 0x77 0x76)
+    ∷ (fault (0xAA ∷ p1) 0, brokenAt 0 2 1 0xAA)
+    ∷ (fault (0xAA ∷ p1) 1, noFault)
+    ∷ (fault [] 0, noFault)
+    ∷ (fault (p1Unused ++ (d1Unused ++ t2)) 0, noFault)
+    ∷ (fault (0x2A ∷ 0x00 ∷ []) 0, noFault)
+    ∷ (fault damaged 0, brokenAt 19 2 10 0xAA)
+    ∷ (fault damaged 19, brokenAt 19 2 10 0xAA)
+    ∷ (fault damaged 20, noFault)
+    ∷ (fault damaged 47, noFault)
+    ∷ (fault (0xAA ∷ 0x7F ∷ 0x80 ∷ []) 0, brokenAt 0 2 2 0x80)
+    ∷ (fault (t1 0xF6) 0, brokenAt 0 2 7 0xF6)
+    ∷ (fault (bytes 8 0xAA102031_77110176) 0, brokenAt 0 3 5 0x11)
+    ∷ (fault (bytes 10 0xAA114410_66100002_0122) 0, wrongSum 0 4 9 0x22 0x21)
+    ∷ (fault (bytes 16 0xAA200011_19200001_00000000_00000015) 0, wrongSum 0 4 15 0x15 0x14)
+    ∷ (fault (take 15 d1Unused ++ (0x14 ∷ [])) 0, wrongSum 0 4 15 0x14 0x54)
+    ∷ (fault (take 15 p1Unused ++ (0x65 ∷ [])) 0, wrongSum 0 6 15 0x65 0x55)
+    ∷ (fault (take 21 twoFrames ++ (0x6D ∷ [])) 0, wrongSum 0 6 21 0x6D 0x6C)
+    ∷ (fault (0x00 ∷ (take 34 threeFrames ++ (0x5E ∷ []))) 0, wrongSum 1 6 34 0x5E 0x5D)
+    ∷ (fault (0xAA ∷ []) 0, endedAt 0 1)
+    ∷ (fault (0xAA ∷ []) 1, noFault)
+    ∷ (fault (p1 ++ take 9 p1) 0, endedAt 16 9)
+    ∷ (fault (take 15 p1) 0, endedAt 0 15)
+    ∷ []
+
 abbrev blockSections : List Row
 blockSections =
     (sections blockHeader example, 0 ∷ 4 ∷ [])
@@ -262,8 +303,8 @@ verdictNumbers =
     ∷ []
 
 abbrev table : List Row
-table = starred ++ (septets ++ (verdicts ++ (records ++ (recordings ++ (receptions ++ (blockSections ++ verdictNumbers))))))
+table = starred ++ (septets ++ (verdicts ++ (records ++ (recordings ++ (receptions ++ (faults ++ (blockSections ++ verdictNumbers)))))))
 
 samples : map (λ (row : Row). answer (row .0)) table ≡ map (λ (row : Row). row .1) table
-unfolding choose signed checksumFrom septetOf lowBits withTopBits anyHigh kindOf headerLength frameWidth frameCount streamLength payloadLength frameRule headerRule ruleAt breach faultAt blockWidth unusedFrames unusedIn countNonzero unusedSeptets validationFrom recordOf unframed commandIn payloadIn framed framesOf kindBytes streamAs streamWith streamOf unwritable Encodings.refusal deliveriesFrom Nexts.refusal streams roomRefusal beginning extended kept outcomeOf Receptions.refusal cut someShort elementSize notBlock flatten
+unfolding choose signed checksumFrom septetOf lowBits withTopBits anyHigh kindOf headerLength frameWidth frameCount streamLength payloadLength frameRule headerRule ruleAt breach faultAt blockWidth unusedFrames unusedIn countNonzero unusedSeptets validationFrom recordOf unframed commandIn payloadIn framed framesOf kindBytes streamAs streamWith streamOf unwritable Encodings.refusal deliveriesFrom Nexts.refusal streams roomRefusal beginning extended kept outcomeOf Receptions.refusal wantedAt faultsFrom nextFault cut someShort elementSize notBlock flatten
 samples = refl

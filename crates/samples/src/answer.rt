@@ -125,6 +125,23 @@ pub fn receive(recording: &[u8]) {
     field::number(state.held as u64);
 }
 
+// The place, the verdict and the offset of a fault, the byte found there and the byte wanted; or that there is none.
+pub fn fault(answer: diagnosis::Fault) {
+    if !answer.found {
+        field::say(b"none");
+        return;
+    }
+    field::number(answer.place as u64);
+    field::decimal(b" V", answer.verdict as u64);
+    field::number(answer.offset as u64);
+    if answer.has_byte {
+        field::byte(answer.byte);
+    }
+    if answer.has_wanted {
+        field::byte(answer.wanted);
+    }
+}
+
 pub fn normalize(recording: &[u8], room: usize) {
     let mut out = UNTOUCHED;
     let answer = recording::normalize(recording, part::first_mut(&mut out, room));

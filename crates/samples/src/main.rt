@@ -35,6 +35,7 @@ fn fields(question: &[u8], bytes: &[u8]) {
         b'i' => field::signed(record::value(part::six(bytes))),
         b'n' => answer::next(bytes, n, m),
         b'w' => answer::receive(bytes),
+        b'f' => answer::fault(diagnosis::next_fault(bytes, n)),
         b'z' => answer::normalize(bytes, n),
         b's' => answer::count(sections::section_count(header, bytes)),
         b'S' => answer::place(sections::find_section(header, bytes, n), bytes),

@@ -1,9 +1,11 @@
-// A recording: its records one by one, and all of them written again.
+// A recording: its records one by one, why there is none, and all of them written again.
 ghost use mathlib.Core.Path.{_≡_};
 ghost use lib.ListN.{length};
+ghost use Rattle.diagnosis.specs.Fault.{nextFault};
 ghost use Rattle.recording.specs.Next.{nextOf, payloadAfter};
 ghost use Rattle.recording.specs.Normalize.{normalizingOf, outputAfter};
 use basics::Written;
+use diagnosis::Fault;
 use recording::Found;
 
 // The record of the first whole stream at or after `start`, its payload at the start of `payload`.
@@ -24,6 +26,14 @@ pub extern "C" fn vbus_next(input: &[u8], start: usize, payload: &mut [u8]) -> F
         header,
         payload_length: next.payload_length,
     }
+}
+
+// The first sync byte at or after `start` that gave no record, and why.
+#[no_mangle]
+pub extern "C" fn vbus_next_fault(input: &[u8], start: usize) -> Fault
+    ensures { λ r. ⌜ r ≡ nextFault (now (input .entry)) start ⌝ }
+{
+    diagnosis::next_fault(input, start)
 }
 
 // Writes the records of a recording again, end to end, to the start of `out`. A refusal leaves every byte of `out` as it was.
