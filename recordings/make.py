@@ -1,17 +1,18 @@
 #!/usr/bin/env python3
-"""Makes the recordings, and with tests/rules.py the listing expected of each.
+"""Makes the recordings, and with tests/rules.py the listing and the explanation expected of each.
 
-usage: make.py           the recordings of this folder, and crates/lister/stdin and stdout
-       make.py FOLDER    the same (the lister's as lister.vbus and lister.txt), and the two too large to ship (full, over), into FOLDER
+usage: make.py           the recordings of this folder, and stdin and stdout of crates/lister and crates/explainer
+       make.py FOLDER    the same (the programs' as lister.* and explainer.*), and those too large to ship, into FOLDER
 
 The streams are written here from RESOL's specification alone (document 000); nothing of the library is used. Each piece of a recording
-carries the lines that it must give, so that the reader is checked by the writer. The same files come out every time.
+carries the lines that it must give, and what must be told of it where the writer knows, so that the reader is checked by the writer. The
+same files come out every time.
 """
 import os
 import sys
 
 HERE = os.path.dirname(os.path.abspath(__file__))
-LISTER = os.path.join(HERE, "..", "crates", "lister")
+CRATES = os.path.join(HERE, "..", "crates")
 sys.path.insert(0, os.path.join(HERE, "..", "tests"))
 sys.dont_write_bytecode = True
 import rules
@@ -72,16 +73,40 @@ def address(destination, source, version):
     return word(destination) + word(source) + bytes([version])
 
 
+CUT_OFF = "AA cut off by a new stream"
+LAYOUT = {0x10: (10, 6), 0x20: (16, 16), 0x30: (8, 9), 0x31: (8, 9)}  # of each version the length of a header and of a frame
+
+
+def told_of(whole, data):
+    """What must be told of a whole stream that has come with these bytes in place of its own. A block of it ends in its checksum: the
+    header, then each frame. None where the bytes announce another kind of stream."""
+    head, frame = LAYOUT[whole[5]]
+    for start, end in [(1, head - 1)] + [(at, at + frame - 1) for at in range(head, len(whole), frame)]:
+        for at in range(start, end + 1):
+            if data[at] >= 0x80:
+                return f"V2 {at} " + (CUT_OFF if data[at] == 0xAA else f"{data[at]:02X}")
+            if at == 5 and data[at] != whole[at]:
+                return None if data[at] in LAYOUT else f"V3 5 {data[at]:02X}"
+        if data[end] != checksum(data[start:end]):
+            return f"V{4 if start == 1 else 6} {end} {data[end]:02X} {checksum(data[start:end]):02X}"
+    raise ValueError("nothing of it has changed")
+
+
 class Recording:
-    """Bytes, and the lines that they must give."""
+    """Bytes, the lines that they must give, and what must be told of those that give none."""
 
     def __init__(self):
         self.bytes = bytearray()
         self.lines = []
+        self.places = set()  # where whole streams begin
+        self.told = {}  # of a damaged stream's place, what is told behind the place
+        self.cuts = {}  # of a cut stream's place, how many bytes there are
+        self.too_long = False  # that is all that is said then
 
     def stream(self, letter, destination, source, version, command, digits, payload, data):
         line = f"{letter} {destination:04X} {source:04X} {version:02X} {command:0{digits}X} {payload.hex().upper()}"
         self.lines.append(line.rstrip())
+        self.places.add(len(self.bytes))
         self.bytes += b"\xAA" + data
 
     def packet(self, destination, source, command, payload, unused=clear):
@@ -99,8 +124,34 @@ class Recording:
         self.stream("T", destination, source, version, command, 2, payload, with_checksum(head) + frames(payload, 7))
 
     def noise(self, data):
-        """Bytes that give no line."""
+        """Bytes that give no line. What is told of a 0xAA among them, the writer doesn't know."""
         self.bytes += data
+
+    def damaged(self, data, told):
+        """A 0xAA and more, with what is told of it."""
+        self.told[len(self.bytes)] = told
+        self.noise(data)
+
+    def changed(self, whole, data):
+        """A stream with other bytes in place of some of its own."""
+        if data[0] == 0xAA:
+            self.damaged(data, told_of(whole, data))
+        else:
+            self.noise(data)
+
+    def cut(self, data):
+        """A stream's beginning."""
+        if data:
+            self.cuts[len(self.bytes)] = len(data)
+        self.noise(data)
+
+    def told_at(self, place):
+        """What must be told of the 0xAA at a place, or None where the writer doesn't know. Of a cut stream the byte behind it decides."""
+        if place not in self.cuts:
+            return self.told.get(place)
+        count = self.cuts[place]
+        behind = self.bytes[place + count : place + count + 1]
+        return {b"": f"V7 {count}", b"\xAA": f"V2 {count} {CUT_OFF}"}.get(bytes(behind))
 
 
 def one(write):
@@ -162,12 +213,16 @@ def sizes():
     return r
 
 
-def uncovered(whole, bits):
+def uncovered(r, whole, bits):
     """A packet or a datagram with these septet bits set, and its checksums as they were."""
     data = bytearray(whole)
     for at in range(14, len(data), 6 if data[5] == 0x10 else 16):
         data[at] |= bits
-    return bytes(data)
+    r.changed(whole, bytes(data))
+
+
+def flipped(whole, at, bit):
+    return whole[:at] + bytes([whole[at] ^ (1 << bit)]) + whole[at + 1 :]
 
 
 def damage():
@@ -177,32 +232,33 @@ def damage():
     for sample in SAMPLES:
         whole = one(sample)
         for end in range(len(whole)):
-            r.noise(whole[:end])
+            r.cut(whole[:end])
             sample(r)
         for at in range(len(whole)):
             for bit in range(8):
-                r.noise(whole[:at] + bytes([whole[at] ^ (1 << bit)]) + whole[at + 1 :])
+                r.changed(whole, flipped(whole, at, bit))
         for at in range(2, len(whole)):
             # a whole stream inside another, and a sync byte alone
-            r.noise(whole[:at])
+            r.cut(whole[:at])
             sample(r)
             r.noise(whole[at:])
-            r.noise(whole[:at] + b"\xAA" + whole[at:])
+            r.cut(whole[:at])
+            r.noise(b"\xAA" + whole[at:])
         # two sync bytes, and a sync byte at the end
-        r.noise(b"\xAA")
+        r.cut(b"\xAA")
         sample(r)
-        r.noise(b"\xAA")
+        r.cut(b"\xAA")
     for version in [0x00, 0x0F, 0x11, 0x21, 0x2F, 0x32, 0x40, 0x7F]:
-        r.noise(b"\xAA" + with_checksum(address(0x0010, 0x7E21, version) + word(0x0100) + b"\x00"))
+        r.damaged(b"\xAA" + with_checksum(address(0x0010, 0x7E21, version) + word(0x0100) + b"\x00"), f"V3 5 {version:02X}")
     # unused septet bits that the checksums leave out
     for bits in range(0x10, 0x80, 0x10):
-        r.noise(uncovered(one(SAMPLES[1]), bits))
-    r.noise(uncovered(one(SAMPLES[2]), 0x40))
+        uncovered(r, one(SAMPLES[1]), bits)
+    uncovered(r, one(SAMPLES[2]), 0x40)
     # the septet left out of the frame's checksum
     head = with_checksum(address(0x0010, 0x7E21, 0x10) + word(0x0100) + b"\x01")
-    r.noise(b"\xAA" + head + bytes([1, 2, 3, 4, 5, checksum([1, 2, 3, 4])]))
+    r.damaged(b"\xAA" + head + bytes([1, 2, 3, 4, 5, checksum([1, 2, 3, 4])]), "V6 15 75 70")
     SAMPLES[0](r)
-    r.noise(one(SAMPLES[1])[:-1])
+    r.cut(one(SAMPLES[1])[:-1])
     return r
 
 
@@ -237,7 +293,7 @@ def collide(r, group, product, first, second):
     """Two slaves answer at once: a bit is 0 on the bus if either sends 0. The second kind of request tells them apart."""
     r.telegram(group, 0x7731, 0x01)
     answers = [one(lambda s: s.telegram(0x7731, group, 0x23, identity(product, 0, n))) for n in (first, second)]
-    r.noise(bytes(a & b for a, b in zip(*answers)))
+    r.changed(answers[0], bytes(a & b for a, b in zip(*answers)))
     r.telegram(group, 0x7731, 0x02)
     r.telegram(0x7731, group, 0x23, identity(product, 0, first))
     r.telegram(group, 0x7731, 0x27, identity(product, 0, first, 1))
@@ -282,9 +338,9 @@ def trouble(r, numbers, second, whole):
     """What a long line does to a stream now and then."""
     at = 1 + numbers.below(len(whole) - 1)
     if second % 3 == 0:
-        r.noise(whole[:at])
+        r.cut(whole[:at])
     elif second % 3 == 1:
-        r.noise(whole[:at] + bytes([whole[at] ^ (1 << numbers.below(8))]) + whole[at + 1 :])
+        r.changed(whole, flipped(whole, at, numbers.below(8)))
     else:
         r.noise(numbers.some(1 + numbers.below(24)))
 
@@ -315,7 +371,7 @@ def plant():
             parameters(r)
         elif second % 15 == 10:
             r.datagram(0x0000, 0x7E21, 0x0500, 0, 0)
-    r.noise(one(lambda s: s.packet(0x0010, 0x7E21, 0x0100, p.packet(240)))[:101])
+    r.cut(one(lambda s: s.packet(0x0010, 0x7E21, 0x0100, p.packet(240)))[:101])
     return r
 
 
@@ -344,7 +400,7 @@ def older():
             trouble(r, numbers, second, one(lambda s: s.packet(0x0010, 0x4221, 0x0100, values, everything)))
         if second % 7 == 5:
             # the same values under the checksums of septets without unused bits
-            r.noise(uncovered(one(lambda s: s.packet(0x0010, 0x4221, 0x0100, values)), 0x70))
+            uncovered(r, one(lambda s: s.packet(0x0010, 0x4221, 0x0100, values)), 0x70)
         r.packet(0x0010, 0x4221, 0x0100, values, anything if second % 2 else everything)
         if second % 4 == 1:
             r.packet(0x0010, 0x7E21, 0x0100, values)
@@ -355,7 +411,7 @@ def older():
         if second % 10 == 6:
             r.telegram(0x2011, 0x7731, 0x04)
             r.telegram(0x7731, 0x2011, 0x25, bytes(range(0xF9, 0x100)))
-    r.noise(one(lambda s: s.packet(0x0010, 0x4221, 0x0100, p.packet(40)[:32], everything))[:-1])
+    r.cut(one(lambda s: s.packet(0x0010, 0x4221, 0x0100, p.packet(40)[:32], everything))[:-1])
     return r
 
 
@@ -371,7 +427,22 @@ def over():
     """One byte more. Nothing but the one line is expected."""
     r = full()
     r.noise(b"\x00")
-    r.lines = ["too long"]
+    r.too_long = True
+    return r
+
+
+def syncs(count=65536):
+    """As many bytes, all 0xAA, which give the longest explanation."""
+    r = Recording()
+    for _ in range(count):
+        r.cut(b"\xAA")
+    return r
+
+
+def syncs_over():
+    """One byte more."""
+    r = syncs(65537)
+    r.too_long = True
     return r
 
 
@@ -399,41 +470,125 @@ def lister():
     r.telegram(0x7731, 0x2110, 0x69, numbers.some(21), version=0x31)
     r.packet(0x0010, 0x4221, 0x0100, bytes.fromhex("E803F401FFFF0080"), lambda: 7)
     r.datagram(0x0020, 0x4221, 0x0100, 0x1234, -750, lambda: 1)
-    r.noise(bytes.fromhex("00 FF 7F AA 55 80 AA"))
+    r.noise(bytes.fromhex("00 FF 7F"))
+    r.damaged(bytes.fromhex("AA 55 80"), "V2 2 80")
+    r.cut(b"\xAA")
     # six frames announced, the first with a wrong checksum; a whole telegram stands in place of the next ones
     whole = one(lambda s: s.packet(0x0010, 0x7E21, 0x0100, numbers.some(24)))
-    r.noise(whole[:15] + bytes([whole[15] ^ 1]))
+    r.changed(whole, flipped(whole, 15, 0)[:16])
     r.telegram(0x7731, 0x2010, 0x25, bytes.fromhex("E803E900000000"))
     r.noise(whole[33:])
     r.datagram(0x0020, 0x7210, 0x0100, 0x1234, -750)
-    r.noise(one(SAMPLES[1])[:-1])
+    r.cut(one(SAMPLES[1])[:-1])
+    return r
+
+
+def requested(r):
+    """Document 02's two samples: D1 and T1 with last byte 77, 0xAA and P1."""
+    r.datagram(0x0020, 0x1911, 0x0100, 0, 0)
+    r.damaged(bytes.fromhex("AA 10 20 31 77 30 01 77"), "V4 7 77 76")
+    r.damaged(b"\xAA", "V2 1 AA cut off by a new stream")
+    r.packet(0x4411, 0x6610, 0x0200, bytes.fromhex("07040F00"))
+    printed = """
+        AA 20 00 11 19 20 00 01 00 00 00 00 00 00 00 14
+        AA 10 20 31 77 30 01 77
+        AA
+        AA 11 44 10 66 10 00 02 01 21 07 04 0F 00 00 65"""
+    assert r.bytes == bytes.fromhex(printed)
+
+
+# A sample, a place in it, the byte that stands there instead, and what must be told of it.
+CHANGES = [
+    (SAMPLES[1], 1, 0xFF, "V2 1 FF"),
+    (SAMPLES[1], 5, 0x90, "V2 5 90"),  # a version's place
+    (SAMPLES[1], 9, 0x80, "V2 9 80"),  # a checksum's place
+    (SAMPLES[4], 15, 0xA9, "V2 15 A9"),  # a septet's place
+    (SAMPLES[1], 5, 0x11, "V3 5 11"),
+    (SAMPLES[3], 5, 0x7F, "V3 5 7F"),
+    (SAMPLES[1], 8, 0x7F, "V4 9 3D 40"),  # a frame count
+    (SAMPLES[2], 15, 0x00, "V4 15 00 31"),
+    (SAMPLES[4], 6, 0x43, "V4 7 54 34"),  # a telegram's command, and so its frame count
+    (SAMPLES[1], 14, 0x75, "V6 15 1A 2A"),  # an unused septet bit that the checksum leaves out
+    (SAMPLES[1], 21, 0x00, "V6 21 00 76"),  # of the second frame
+    (SAMPLES[4], 16, 0x70, "V6 16 70 71"),
+    (SAMPLES[5], 34, 0x00, "V6 34 00 56"),  # of the third frame
+]
+
+
+def explainer():
+    """What `rt ci` runs the explainer on: document 02's samples, every verdict that there can be, unused septet bits, places of one to
+    five digits and offsets of one to three."""
+    r = Recording()
+    requested(r)
+    r.packet(0x0010, 0x4221, 0x0100, bytes.fromhex("E803F401FFFF0080"), lambda: 7)
+    r.datagram(0x0020, 0x4221, 0x0100, 0x1234, -750, lambda: 1)
+    for sample, at, byte, told in CHANGES:
+        whole = one(sample)
+        data = whole[:at] + bytes([byte]) + whole[at + 1 :]
+        assert told == told_of(whole, data), (told, told_of(whole, data))
+        r.damaged(data, told)
+        sample(r)
+    numbers = Numbers(4)
+    # six frames announced, the first with a wrong checksum; a damaged telegram and a whole one stand in place of the next ones
+    whole = one(lambda s: s.packet(0x0010, 0x7E21, 0x0100, numbers.some(24)))
+    r.changed(whole, flipped(whole, 15, 0)[:16])
+    r.damaged(bytes.fromhex("AA 10 20 31 77 30 01 77"), "V4 7 77 76")
+    r.telegram(0x2010, 0x7731, 0x01)
+    r.noise(bytes.fromhex("00 FF 7F"))
+    for _ in range(13):
+        r.packet(0x0010, 0x7E21, 0x0100, numbers.some(508))
+    longest = one(lambda s: s.packet(0x0010, 0x7E21, 0x0100, numbers.some(508)))
+    r.changed(longest, flipped(longest, 771, 6))
+    r.cut(longest[:771])
+    r.cut(longest[:770])
     return r
 
 
 SHIPPED = [examples, sizes, damage, plant, older, empty]
-LARGE = [full, over]
+PROGRAMS = [lister, explainer]
+LARGE = [full, over, syncs, syncs_over]
+# how many 0xAA there are of which the writer knows no more than that they give no record
+UNKNOWN = {"damage": 112}
 
 
-def write(make, recording_file, listing_file):
+def check_faults(name, recording):
+    """Holds the reader's faults to what the writer knows, and to document 02: the reason must be true."""
+    data, faults = bytes(recording.bytes), rules.faults(bytes(recording.bytes))
+    without_record = [at for at, byte in enumerate(data) if byte == 0xAA and at not in recording.places]
+    assert [fault[0] for fault in faults] == without_record, f"{name}: the reader's places aren't the writer's"
+    told = [recording.told_at(place) for place in without_record]
+    for fault, known in zip(faults, told):
+        assert known is None or rules.fault_line(fault) == f"{fault[0]} {known}", (name, fault, known)
+        assert rules.reason_is_true(data, fault), (name, fault)
+    assert told.count(None) == UNKNOWN.get(name, 0), (name, told.count(None), len(told))
+
+
+def write(make, recording_file, listing_file=None, explanation_file=None):
     recording = make()
-    listing = rules.listing(bytes(recording.bytes))
-    assert listing == "".join(line + "\n" for line in recording.lines), f"{make.__name__}: the reader and the writer disagree"
-    with open(recording_file, "wb") as file:
-        file.write(recording.bytes)
-    with open(listing_file, "w", newline="\n") as file:
-        file.write(listing)
+    check_faults(make.__name__, recording)
+    data = bytes(recording.bytes)
+    listing, explanation = rules.listing(data), rules.explanation(data)
+    expected = ["too long"] if recording.too_long else recording.lines
+    assert listing == "".join(line + "\n" for line in expected), f"{make.__name__}: the reader and the writer disagree"
+    assert (explanation == "too long\n") == recording.too_long
+    for file_name, content in ((recording_file, data), (listing_file, listing.encode()), (explanation_file, explanation.encode())):
+        if file_name:
+            with open(file_name, "wb") as file:
+                file.write(content)
 
 
 def write_into(folder, make):
     path = os.path.join(folder, make.__name__)
-    write(make, path + ".vbus", path + ".txt")
+    write(make, path + ".vbus", path + ".txt", path + ".faults.txt")
 
 
 if __name__ == "__main__":
     if len(sys.argv) > 1:
-        for make in SHIPPED + [lister] + LARGE:
+        for make in SHIPPED + PROGRAMS + LARGE:
             write_into(sys.argv[1], make)
     else:
         for make in SHIPPED:
             write_into(HERE, make)
-        write(lister, os.path.join(LISTER, "stdin"), os.path.join(LISTER, "stdout"))
+        stored = lambda program, name: os.path.join(CRATES, program, name)
+        write(lister, stored("lister", "stdin"), listing_file=stored("lister", "stdout"))
+        write(explainer, stored("explainer", "stdin"), explanation_file=stored("explainer", "stdout"))

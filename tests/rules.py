@@ -157,6 +157,69 @@ def normalize(s, room):
     return (5, b"") if room < len(out) else (0, out)
 
 
+# ── why a 0xAA gave no record
+
+
+def wanted(s, verdict, offset):
+    """the checksum that the bytes before the offset ask for, where the fault is a wrong one"""
+    if verdict == 4:
+        return checksum(s[1:offset])
+    return checksum(s[offset - WIDTH[s[5]] - 1 : offset]) if verdict == 6 else None
+
+
+def faults(s):
+    """of each 0xAA whose stretch isn't whole, in order: place, verdict, offset, the byte found or None at the end, the byte wanted or None"""
+    found = []
+    for place in range(len(s)):
+        if s[place] != 0xAA:
+            continue
+        stretch = s[place:]
+        verdict, offset, _ = validate(stretch)
+        if verdict:
+            found.append((place, verdict, offset, None if verdict == 7 else stretch[offset], wanted(stretch, verdict, offset)))
+    return found
+
+
+def next_fault(s, start):
+    """the first fault at or behind the start, or None"""
+    return next((fault for fault in faults(s) if fault[0] >= start), None)
+
+
+def grown(prefix):
+    """these bytes, and behind them what makes a whole stream of them if anything does: a sync byte, the version of a packet, zeros, and
+    the right checksums; of an unknown version nothing"""
+    s = bytearray(prefix)
+    s += (b"\xAA" + bytes(4) + bytes([PACKET]))[len(s) :]
+    if s[5] not in HEADER:
+        return bytes(s)
+    head, width = HEADER[s[5]], WIDTH[s[5]]
+    s += bytes(max(0, head - 1 - len(s)))
+    s += bytes([checksum(s[1 : head - 1])]) if len(s) < head else b""
+    for start in range(head, head + (width + 2) * frame_count(s), width + 2):
+        end = start + width + 1
+        s += bytes(max(0, end - len(s)))
+        s += bytes([checksum(s[start:end])]) if len(s) == end else b""
+    return bytes(s)
+
+
+def can_grow(prefix):
+    """whether these bytes, with some behind them or with none, are one whole stream"""
+    s = grown(prefix)
+    return validate(s)[:2] == (0, len(s))
+
+
+def reason_is_true(s, fault):
+    """document 02's words: before the offset all could have grown into a valid stream, with the byte found no longer, with the byte
+    wanted still; at the end all could have grown on"""
+    place, verdict, offset, found, want = fault
+    before = s[place : place + offset]
+    if verdict == 7:
+        return place + offset == len(s) and (found, want) == (None, None) and can_grow(before)
+    if found != s[place + offset] or not can_grow(before) or can_grow(before + bytes([found])):
+        return False
+    return can_grow(before + bytes([want])) if verdict in (4, 6) else want is None
+
+
 # ── a receiver, fed a recording until it is used up
 
 
@@ -243,3 +306,18 @@ def listing(recording):
     if len(recording) > 65536:
         return "too long\n"
     return "".join(line(record) + "\n" for record in deliveries(recording))
+
+
+# ── the explainer
+
+
+def fault_line(fault):
+    place, verdict, offset, *bytes_told = fault
+    told = "".join(f" {byte:02X}" for byte in bytes_told if byte is not None)
+    return f"{place} V{verdict} {offset}{told}" + (" cut off by a new stream" if (verdict, bytes_told[0]) == (2, 0xAA) else "")
+
+
+def explanation(recording):
+    if len(recording) > 65536:
+        return "too long\n"
+    return "".join(fault_line(fault) + "\n" for fault in faults(recording))
