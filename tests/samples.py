@@ -131,6 +131,17 @@ def normalize(name, text, room, number, same_as=""):
     ask("z", name, s, said, len(out), hexed(out), "kept", first=room)
 
 
+def fault(name, text, start, told):
+    """`told` is what must be told of the first 0xAA, at the start or behind it, that gave no record: place, verdict, offset, the byte found
+    and the byte wanted where there is one; or "none"; document 02: the reason must be true"""
+    s = bytes.fromhex(text)
+    found = rules.next_fault(s, start)
+    assert found is None or rules.reason_is_true(s, found), (name, found)
+    line = "none" if found is None else rules.fault_line(found)
+    assert line.removesuffix(" cut off by a new stream") == told, (name, line)
+    ask("f", name, s, told, first=start)
+
+
 BLOCK = (0x10, 0x0015, 0x7E11, 0x0100)
 
 
@@ -350,6 +361,71 @@ longest = rules.written(packet(PATTERN[:508])).hex()
 receive("receive-772", longest, 0, 772)
 receive("receive-771", longest[:-2], 771)
 receive("receive-771-twice", longest[:-2] + longest, 0, 1543)
+
+# Why there is no record. The first two are document 02's.
+T1_77 = T1[:-2] + "77"
+assert rules.explanation(bytes.fromhex(D1 + T1_77)) == "16 V4 7 77 76\n"
+assert rules.explanation(bytes.fromhex("AA" + P1)) == "0 V2 1 AA cut off by a new stream\n"
+fault("fault-D1-T1-77", D1 + T1_77, 0, "16 V4 7 77 76")
+fault("fault-AA-P1", "AA" + P1, 0, "0 V2 1 AA")
+fault("fault-empty", "", 0, "none")
+fault("fault-empty-1", "", 1, "none")
+fault("fault-noise", "00 FF 7F A9 AB 2A", 0, "none")
+for name, text in (("P1", P1), ("P1-D1-T2", P1 + D1 + T2), ("772", longest)):
+    fault("fault-clean-" + name, text, 0, "none")
+# V2, by another sync byte and by other bytes: of an address, at the place of a version, a septet, each kind's checksum, a frame's
+fault("fault-AA-AA-AA", "AA AA AA", 1, "1 V2 1 AA")
+fault("fault-AA-at-checksum", P1[:-2] + "AA" + T1, 0, "0 V2 15 AA")
+fault("fault-AA-at-checksum-15", P1[:-2] + "AA" + T1, 15, "15 V2 1 AA")
+fault("fault-high-address", "AA 10 20 FF 77 30 01 76", 0, "0 V2 3 FF")
+fault("fault-high-80", "AA 80", 0, "0 V2 1 80")
+fault("fault-high-version", "AA 10 20 31 77 90 01 76", 0, "0 V2 5 90")
+fault("fault-high-septet", P1[:-5] + "90 55", 0, "0 V2 14 90")
+fault("fault-high-checksum-P", P1[:27] + "A1" + P1[29:], 0, "0 V2 9 A1")
+fault("fault-high-checksum-D", D1[:-2] + "94", 0, "0 V2 15 94")
+fault("fault-high-checksum-T", T1[:-2] + "F6", 0, "0 V2 7 F6")
+fault("fault-high-checksum-frame", T2[:-2] + "F1", 0, "0 V2 16 F1")
+fault("fault-high-771", longest[:-2] + "FF", 0, "0 V2 771 FF")
+# V3, with and without more behind the version
+for version in ("00", "11", "32", "7F"):
+    fault("fault-version-" + version, "AA 10 20 31 77" + version + "01 76", 0, f"0 V3 5 {version}")
+fault("fault-version-last", "AA 10 20 31 77 11", 0, "0 V3 5 11")
+# V4, of each kind; the frame count is a header's byte too
+fault("fault-header-P", P1[:27] + "22" + P1[29:], 0, "0 V4 9 22 21")
+fault("fault-header-D", D1[:-2] + "15", 0, "0 V4 15 15 14")
+fault("fault-header-T", T1_77, 0, "0 V4 7 77 76")
+fault("fault-header-count", P1[:24] + "02" + P1[26:], 0, "0 V4 9 21 20")
+fault("fault-header-command", T2[:18] + "43" + T2[20:], 0, "0 V4 7 54 34")
+# V6, of a packet and of a telegram, of the first frame and of the last; 0B leaves the septet out
+fault("fault-frame-P", P1[:-2] + "64", 0, "0 V6 15 64 65")
+fault("fault-frame-T", T2[:-2] + "0B", 0, "0 V6 16 0B 71")
+fault("fault-frame-T-last", rules.written((0x31, 0x7731, 0x2110, 0x69, PATTERN[:21])).hex()[:-2] + "00", 0, "0 V6 34 00 01")
+fault("fault-frame-P-last", longest[:-2] + "00", 0, "0 V6 771 00 6D")
+# Unused septet bits: no fault under the checksums of these septets, one under others
+for name, text in (("P1", P1_UNUSED), ("D1", D1_UNUSED), ("three", P3_UNUSED), ("T4", T4)):
+    fault("fault-unused-" + name, text, 0, "none")
+fault("fault-unused-P1-65", P1[:-5] + "10 65", 0, "0 V6 15 65 55")
+fault("fault-unused-D1-14", D1[:-5] + "40 14", 0, "0 V4 15 14 54")
+fault("fault-unused-three-6B", P3_UNUSED[:-2] + "6B", 0, "0 V6 27 6B 5B")
+fault("fault-unused-cut", P1_UNUSED[:-3], 0, "0 V7 15")
+# V7: the recording ends behind the sync byte, within a header, before a frame, within one
+fault("fault-end-1", P1 + "AA", 0, "16 V7 1")
+fault("fault-end-5", P1 + T1[:14], 0, "16 V7 5")
+fault("fault-end-6", T1[:17], 0, "0 V7 6")
+fault("fault-end-9", P1[:26], 0, "0 V7 9")
+fault("fault-end-10", P1[:29], 0, "0 V7 10")
+fault("fault-end-15-D", D1[:-3], 0, "0 V7 15")
+fault("fault-end-15", P1[:-3], 0, "0 V7 15")
+fault("fault-end-771", longest[:-2], 0, "0 V7 771")
+# Starts before, at and behind a fault, at the end and past it
+for start in (0, 1, 16, 19):
+    fault("fault-start-%d" % start, damaged, start, "19 V2 10 AA")
+for start in (20, 29, 30, 46, 47, 65535):
+    fault("fault-start-%d" % start, damaged, start, "none")
+# Faults and a record within the announced length of a damaged stream
+inside = P3_HEADER + "68 03 74 01 05 1B" + T1_77 + T1 + "AA 01"
+for start, told in ((0, "0 V6 15 1B 1A"), (1, "16 V4 7 77 76"), (16, "16 V4 7 77 76"), (17, "32 V7 2"), (33, "none")):
+    fault("fault-inside-%d" % start, inside, start, told)
 
 E48 = (  # document 000's block packet
     "02 0A 00 00 03 00 08 00 00 00 00 00 01 0B 00 00 00 00 00 00 04 08 00 00"
