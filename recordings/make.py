@@ -5,8 +5,8 @@ usage: make.py           the recordings of this folder, and stdin and stdout of 
        make.py FOLDER    the same (the programs' as lister.* and explainer.*), and those too large to ship, into FOLDER
 
 The streams are written here from RESOL's specification alone (document 000); nothing of the library is used. Each piece of a recording
-carries the lines that it must give, and what must be told of it where the writer knows, so that the reader is checked by the writer. The
-same files come out every time.
+carries the lines that it must give and, where the writer knows it, what must be told of it by document 01's verdicts, so that the reader
+is checked by the writer. The same files come out every time.
 """
 import os
 import sys
@@ -547,8 +547,9 @@ def explainer():
 SHIPPED = [examples, sizes, damage, plant, older, empty]
 PROGRAMS = [lister, explainer]
 LARGE = [full, over, syncs, syncs_over]
-# how many 0xAA there are of which the writer knows no more than that they give no record
-UNKNOWN = {"damage": 112}
+# Of how many 0xAA the writer knows no more than that they give no record: those that stand alone within a stream, and those whose version
+# was flipped to another that there is.
+UNKNOWN = {"damage": sum(len(one(sample)) - 2 for sample in SAMPLES) + 10}
 
 
 def check_faults(name, recording):
