@@ -3,6 +3,7 @@ use mathlib.Core.Path.{_≡_, refl}
 use mathlib.Core.List.{[], _∷_, _++_}
 use Rattle.text.specs.Ascii.{ascii}
 use Rattle.text.specs.Hex.{hexByte, hexWord}
+use Rattle.text.specs.Decimal.{digitsWithin, decimal}
 
 characters : ascii "09AFDPTglnot? \n" ≡ 0x30 ∷ 0x39 ∷ 0x41 ∷ 0x46 ∷ 0x44 ∷ 0x50 ∷ 0x54 ∷ 0x67 ∷ 0x6C ∷ 0x6E ∷ 0x6F ∷ 0x74 ∷ 0x3F ∷ 0x20 ∷ 0x0A ∷ []
 characters = refl
@@ -16,3 +17,7 @@ swapped = refl
 
 words : hexWord 0x0123 ++ hexWord 0x4567 ++ hexWord 0x89AB ++ hexWord 0xCDEF ≡ ascii "0123456789ABCDEF"
 words = refl
+
+numbers : decimal 0 ++ decimal 9 ++ decimal 10 ++ decimal 100 ++ decimal 65535 ++ decimal 18446744073709551615 ≡ ascii "09101006553518446744073709551615"
+unfolding decimal digitsWithin
+numbers = refl
