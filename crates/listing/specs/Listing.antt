@@ -19,9 +19,12 @@ linesOf (r ∷ rest) = lineOf r ++ linesOf rest
 abbrev pub listingOf : List ℕ → List ℕ
 listingOf s = linesOf (records s)
 
--- at most 65,536 bytes; more gives the single line `too long`
+-- at most 65,536 bytes; more gives the single line `too long` in place of the text
+abbrev pub limited : List ℕ → List ℕ → List ℕ
+limited s text = choose (ltb 65536 (length s)) (ascii "too long\n") text
+
 abbrev pub outputOf : List ℕ → List ℕ
-outputOf s = choose (ltb 65536 (length s)) (ascii "too long\n") (listingOf s)
+outputOf s = limited s (listingOf s)
 
 -- 5: the output has fewer than 147,456 bytes, which hold all that can be printed
 unfoldable pub listRefusal : ℕ → ℕ
