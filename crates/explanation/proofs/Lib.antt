@@ -1,1 +1,3 @@
+pub mod Appending
+pub mod Lines
 pub mod Samples
