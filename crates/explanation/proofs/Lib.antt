@@ -1,3 +1,4 @@
 pub mod Appending
-pub mod Lines
+pub mod Following
+pub mod Room
 pub mod Samples

@@ -29,12 +29,12 @@ fn decimal(n: usize, out: &mut [u8], at: usize) -> usize
     piece(&digit, out, last)
 }
 
-// A number behind some text.
-fn number(before: &[u8], n: usize, out: &mut [u8], at: usize) -> usize
-    requires { ⌜ at + length (now before) + 20 ≤ length (now out) ⌝ }
-    ensures { λ r. ⌜ Appended (length (now (before .entry)) + 20) (now (before .entry) ++ text.decimal n) (now (out .entry)) at (now (out .exit)) r ⌝ }
+// A number behind a prefix.
+fn number(prefix: &[u8], n: usize, out: &mut [u8], at: usize) -> usize
+    requires { ⌜ at + length (now prefix) + 20 ≤ length (now out) ⌝ }
+    ensures { λ r. ⌜ Appended (length (now (prefix .entry)) + 20) (now (prefix .entry) ++ text.decimal n) (now (out .entry)) at (now (out .exit)) r ⌝ }
 {
-    let start = piece(before, out, at);
+    let start = piece(prefix, out, at);
     decimal(n, out, start)
 }
 

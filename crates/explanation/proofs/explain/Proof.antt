@@ -1,42 +1,53 @@
+-- `explain` meets its contract: the room suffices for every explanation. Assumes nothing.
+use native.Mathlib.Omega.{arith}
+use Prim.Native.Nat.{ℕ}
+use mathlib.Core.Path.{refl, ap}
+use borrow.Author.Tests.{lt-ltb, le-ltb}
+use Rattle.basics.specs.Choice.{choose}
+use Rattle.basics.specs.declared.Written.{Written}
+use Rattle.explanation.specs.Explanation.{explainRefusal}
+use Rattle.explanation.proofs.Room.{explanation-room}
 use borrow.Author.Needs.{needs}
 use Rattle.explanation.proofs.explain.Statement.{statement}
 use Rattle.explanation.proofs.explain.Tie as tie
-use Rattle.explanation.proofs.explain.Reads as reads
-use Rattle.explanation.proofs.explain.Lts as lts
-use Rattle.bytes.proofs.copy.Reads as copy-reads
-use Rattle.explanation.proofs.all.lines.Reads as lines-reads
 
--- src/lib.rt:45:9
+abbrev answer : ℕ → Written
+answer n = record { number = 0; length = n }
+
 returns : tie.Need-returns
-returns c = ?
+unfolding choose explainRefusal
+returns c = rw (lt-ltb _ _ (c .if1 .taken)) (refl, refl)
 
--- src/lib.rt:50:33
 slice-aggregate-copy : tie.Need-slice-aggregate-copy
 slice-aggregate-copy c = search needs
 
--- src/lib.rt:50:21
 copy-requires : tie.Need-copy-requires
 copy-requires c κs = search needs
 
--- src/lib.rt:48:9
 same-length : tie.Need-same-length
 same-length c = search needs
 
--- src/lib.rt:48:9
 returns-2 : tie.Need-returns-2
-returns-2 c = ?
+unfolding choose explainRefusal
+returns-2 c =
+    let copy = c .before .before in
+    let test = copy .before .before .before in
+    rw (le-ltb _ _ (test .before .if1 .left), lt-ltb _ _ (test .if2 .taken)) (ap answer (copy .copy .ensures .0), copy .copy .ensures .1)
 
--- src/lib.rt:55:17
 lines-requires : tie.Need-lines-requires
-lines-requires c κs = ?
+lines-requires c κs =
+    let args = c .before .before .before .before .before .args in
+    omega (arith, explanation-room (args .input .now) (omega arith))
 
--- src/lib.rt:40:1
 same-length-2 : tie.Need-same-length-2
 same-length-2 c = search needs
 
--- src/lib.rt:40:1
 returns-3 : tie.Need-returns-3
-returns-3 c = ?
+unfolding choose explainRefusal
+returns-3 c =
+    let lines = c .before .before in
+    let test = lines .before .before in
+    rw (le-ltb _ _ (test .before .if1 .left), le-ltb _ _ (test .if2 .left)) (ap answer (lines .lines .ensures .0), lines .lines .ensures .1)
 
 pub explain-spec : {M : Type 1} → statement M
 explain-spec =

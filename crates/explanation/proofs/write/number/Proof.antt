@@ -1,3 +1,9 @@
+use native.Mathlib.Omega.{arith}
+use Prim.Native.Nat.{_≤_}
+use lib.ListN.{length}
+use Rattle.text.specs.Decimal.{decimal}
+use Rattle.text.proofs.Decimal.{decimal-most}
+use Rattle.explanation.proofs.Appending.{behind, within}
 use borrow.Author.Needs.{needs}
 use Rattle.explanation.proofs.write.number.Statement.{statement}
 use Rattle.explanation.proofs.write.number.Tie as tie
@@ -6,13 +12,16 @@ use Rattle.explanation.proofs.write.number.Lts as lts
 use Rattle.explanation.proofs.write.decimal.Reads as decimal-reads
 use Rattle.explanation.proofs.write.piece.Reads as piece-reads
 
+digits : (s : tie.Start) → length (decimal (s .args .n)) ≤ 20
+digits s = decimal-most 19 (s .args .n) (omega arith)
+
 -- src/write.rt:37:9
 piece-requires : tie.Need-piece-requires
 piece-requires c κs = search needs
 
 -- src/write.rt:38:5
 decimal-requires : tie.Need-decimal-requires
-decimal-requires c κs = ?
+decimal-requires c κs = omega (arith, digits (c .before .before .before .before .before .before .before))
 
 -- src/write.rt:33:1
 same-length : tie.Need-same-length
@@ -20,7 +29,10 @@ same-length c = search needs
 
 -- src/write.rt:33:1
 returns : tie.Need-returns
-returns c = ?
+returns c =
+    let call = c .before .before in
+    let first = call .before .before .before .before in
+    within (omega (arith, digits (first .before .before .before .before))) (behind (first .piece .ensures) (call .decimal .ensures))
 
 pub number-spec : {M : Type 1} → statement M
 number-spec = tie.close (tie.spec piece-requires decimal-requires same-length returns)

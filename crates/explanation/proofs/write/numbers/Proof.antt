@@ -1,3 +1,5 @@
+use Rattle.explanation.specs.Line.{numbersText}
+use Rattle.explanation.proofs.Appending.{behind}
 use borrow.Author.Needs.{needs}
 use Rattle.explanation.proofs.write.numbers.Statement.{statement}
 use Rattle.explanation.proofs.write.numbers.Tie as tie
@@ -39,7 +41,12 @@ same-length c = search needs
 
 -- src/write.rt:42:1
 returns : tie.Need-returns
-returns c = ?
+unfolding numbersText
+returns c =
+    let third = c .before .before in
+    let second = third .before .before .before .before .before in
+    let first = second .before .before .before .before .before .before in
+    behind (first .number .ensures) (behind (second .number2 .ensures) (third .number3 .ensures))
 
 pub numbers-spec : {M : Type 1} → statement M
 numbers-spec =
