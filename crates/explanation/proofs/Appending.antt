@@ -1,12 +1,10 @@
 -- Laws of texts that are put into a buffer one behind the other.
 use Prim.Native.Nat.{ℕ, _+_, _-_, _≤_}
 use native.Mathlib.Omega.{arith}
-use mathlib.Core.Path.{_≡_, refl, ap, _∙_, sym}
-use mathlib.Core.Bool.{Bool, true, false}
+use mathlib.Core.Path.{_≡_, ap, _∙_, sym}
 use mathlib.Core.List.{List, [], _++_, append-assoc, append-nil}
 use lib.ListN.{length, take, drop, length-append}
 use lib.Seq.{take-at, take-length, length-take-le}
-use Rattle.basics.specs.Bytes.{over}
 use Rattle.basics.proofs.Over.{put}
 use Rattle.explanation.specs.Stage.{Appended}
 

@@ -2,22 +2,20 @@
 use Prim.Native.Nat.{ℕ, suc, _+_, _*_, _≤_, _<_}
 use native.Mathlib.Omega.{arith}
 use native.Mathlib.Decide.{ℕ-discrete, decLt}
-use mathlib.Core.Path.{_≡_, refl, ap, _∙_, sym}
-use mathlib.Core.Bool.{Bool, true, false, _&&_, true≢false}
+use mathlib.Core.Path.{_≡_, refl, ap, _∙_}
+use mathlib.Core.Bool.{Bool, true, false}
 use mathlib.Core.Logic.{dite}
 use mathlib.Core.List.{List, [], _∷_}
-use borrow.Author.Tests.{le-ltb, eqb-true, eq-eqb, ne-eqb}
-use lib.Dec.{eqb}
+use borrow.Author.Tests.{le-ltb, ne-eqb}
 use lib.ListN.{length, take, drop, length-append}
 use lib.Seq.{take-append-seam}
 use Rattle.basics.specs.Choice.{choose}
 use Rattle.basics.proofs.Choice.{choose-by}
 use Rattle.stream.specs.Layout.{kind, streamLength}
-use Rattle.stream.specs.Validation.{Rule, any, unknown, headerSum, frameSum, ruleAt, breach, faultAt, validationOf}
+use Rattle.stream.specs.Validation.{Rule, any, unknown, headerSum, frameSum, ruleAt, breach, faultAt}
 use Rattle.stream.proofs.Faults.{low-held}
 use Rattle.stream.proofs.Lengths.{as-low}
 use Rattle.stream.proofs.Offsets.{NotWhole, cut, broken, not-whole}
-use Rattle.text.specs.Decimal.{decimal}
 use Rattle.text.proofs.Decimal.{decimal-most}
 use Rattle.diagnosis.specs.Fault.{isFault, hasWanted, faultOf, faultsFrom}
 use Rattle.diagnosis.specs.declared.Fault.{Fault}

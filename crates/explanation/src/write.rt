@@ -7,7 +7,6 @@ ghost use Rattle.text.specs.Decimal as text;
 ghost use Rattle.listing.specs.Line.{spaced};
 ghost use Rattle.explanation.specs.Line as lines;
 ghost use Rattle.explanation.specs.Stage.{Appended};
-
 use diagnosis::Fault;
 
 fn piece(text: &[u8], out: &mut [u8], at: usize) -> usize

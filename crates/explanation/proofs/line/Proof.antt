@@ -2,21 +2,15 @@
 use Prim.Native.Nat.{ℕ, _≤_, _<_}
 use native.Mathlib.Omega.{arith}
 use native.Mathlib.Nat.{sub-zero}
-use mathlib.Core.Path.{_≡_, refl, ap, _∙_, sym}
-use mathlib.Core.List.{List}
-use lib.ListN.{length, take}
+use mathlib.Core.Path.{_≡_, ap, _∙_, sym}
+use lib.ListN.{length}
 use lib.Seq.{length-take-le}
-use Rattle.basics.specs.Bytes.{over}
 use Rattle.basics.proofs.Over.{copied}
 use Rattle.basics.proofs.Output.{answered-short, answered-fits, output-kept, output-written}
 use Rattle.explanation.specs.Line.{lineOf}
 use borrow.Author.Needs.{needs}
 use Rattle.explanation.proofs.line.Statement.{statement}
 use Rattle.explanation.proofs.line.Tie as tie
-use Rattle.explanation.proofs.line.Reads as reads
-use Rattle.explanation.proofs.line.Lts as lts
-use Rattle.bytes.proofs.copy.Reads as copy-reads
-use Rattle.explanation.proofs.write.line.Reads as line-reads
 
 -- the line has been made
 abbrev start : tie.After-line → tie.Start
@@ -25,15 +19,12 @@ start c = c .before .before .before
 size : (c : tie.After-line) → length (lineOf (start c .args .fault)) ≡ c .line .result
 size c = sym (ap length (c .line .ensures .begins)) ∙ length-take-le _ _ (omega arith)
 
--- src/lib.rt:30:37
 slice-aggregate-line : tie.Need-slice-aggregate-line
 slice-aggregate-line c = search needs
 
--- src/lib.rt:30:9
 line-requires : tie.Need-line-requires
 line-requires c κs = search needs
 
--- src/lib.rt:32:9
 returns : tie.Need-returns
 returns c =
     let call = c .before .before in
@@ -42,27 +33,21 @@ returns c =
     let short : length out < length line = omega (arith, size call) in
     (sym (answered-short line (length out) short), sym (output-kept line out short))
 
--- src/lib.rt:34:17
 sub-copy : tie.Need-sub-copy
 sub-copy c = search needs
 
--- src/lib.rt:34:17
 part-copy-start : tie.Need-part-copy-start
 part-copy-start c = search needs
 
--- src/lib.rt:34:17
 part-copy-end : tie.Need-part-copy-end
 part-copy-end c = search needs
 
--- src/lib.rt:34:5
 copy-requires : tie.Need-copy-requires
 copy-requires c κs = search needs
 
--- src/lib.rt:25:1
 same-length : tie.Need-same-length
 same-length c = search needs
 
--- src/lib.rt:25:1
 returns-2 : tie.Need-returns-2
 returns-2 c =
     let copy = c .before .before in
@@ -70,9 +55,10 @@ returns-2 c =
     let call = test .before .before in
     let out = start call .args .out .now in
     let line = lineOf (start call .args .fault) in
-    let fits : length line ≤ length out = omega (arith, size call) in
-    (sym (answered-fits line (length out) fits ∙ ap (λ (n : ℕ). record { number = 0; length = n }) (size call)),
-    copied line _ out _ (call .line .ensures .begins) (rw sub-zero at (copy .copy .ensures .1)) ∙ sym (output-written line out fits))
+    let fits : length line ≤ length out = omega (arith, size call) in (
+      sym (answered-fits line (length out) fits ∙ ap (λ (n : ℕ). record { number = 0; length = n }) (size call)),
+      copied line _ out _ (call .line .ensures .begins) (rw sub-zero at (copy .copy .ensures .1)) ∙ sym (output-written line out fits),
+    )
 
 pub line-spec : {M : Type 1} → statement M
 line-spec =

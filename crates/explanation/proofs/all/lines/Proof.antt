@@ -1,12 +1,10 @@
 -- `all::lines` meets its contract: the output begins with what is written, and what remains makes up the rest. Assumes nothing.
 use Prim.Native.Nat.{ℕ, _+_, _-_, _^_, _<_, _≤_}
 use native.Mathlib.Omega.{arith}
-use native.Mathlib.Nat.{sub-zero}
 use mathlib.Core.Path.{_≡_, refl, sym, ap, _∙_}
 use mathlib.Core.List.{List, [], _++_, append-nil}
 use lib.ListN.{length, take, drop, length-append, length-drop}
 use Rattle.basics.specs.Bytes.{over}
-use Rattle.basics.specs.Output.{answeredFor, outputFor}
 use Rattle.basics.specs.declared.Written.{Written}
 use Rattle.basics.proofs.Over.{part, lent}
 use Rattle.basics.proofs.Output.{answered-fits, output-written}

@@ -1,39 +1,29 @@
+-- `write::byte` meets its contract. Assumes nothing.
 use Rattle.basics.specs.Choice.{choose}
 use Rattle.explanation.specs.Line.{byteText}
 use Rattle.explanation.proofs.Appending.{nothing}
 use borrow.Author.Needs.{needs}
 use Rattle.explanation.proofs.write.byte.Statement.{statement}
 use Rattle.explanation.proofs.write.byte.Tie as tie
-use Rattle.explanation.proofs.write.byte.Reads as reads
-use Rattle.explanation.proofs.write.byte.Lts as lts
-use Rattle.explanation.proofs.write.piece.Reads as piece-reads
-use Rattle.text.proofs.hex_byte.Reads as hex-byte-reads
 
--- src/write.rt:50:22
 hex-byte-requires : tie.Need-hex-byte-requires
 hex-byte-requires c κs = search needs
 
--- src/write.rt:51:30
 array-read-t11 : tie.Need-array-read-t11
 array-read-t11 c = search needs
 
--- src/write.rt:51:41
 array-read-t14 : tie.Need-array-read-t14
 array-read-t14 c = search needs
 
--- src/write.rt:51:22
 slice-aggregate-piece : tie.Need-slice-aggregate-piece
 slice-aggregate-piece c = search needs
 
--- src/write.rt:51:9
 piece-requires : tie.Need-piece-requires
 piece-requires c κs = search needs
 
--- src/write.rt:51:9
 same-length : tie.Need-same-length
 same-length c = search needs
 
--- src/write.rt:51:9
 returns : tie.Need-returns
 unfolding byteText choose
 returns c =
@@ -42,7 +32,6 @@ returns c =
     let told = rw (call .hex-byte .ensures) at (piece .piece .ensures) in
     rw (call .before .if1 .taken) told
 
--- src/write.rt:45:1
 returns-2 : tie.Need-returns-2
 unfolding byteText choose
 returns-2 c = rw (c .if1 .left) (nothing _ _ _)

@@ -1,15 +1,12 @@
+-- `write::is_cut_off` meets its contract. Assumes nothing.
 use mathlib.Core.Path.{refl}
 use borrow.Author.Tests.{eq-eqb, ne-eqb}
 use Rattle.explanation.proofs.write.is_cut_off.Statement.{statement}
 use Rattle.explanation.proofs.write.is_cut_off.Tie as tie
-use Rattle.explanation.proofs.write.is_cut_off.Reads as reads
-use Rattle.explanation.proofs.write.is_cut_off.Lts as lts
 
--- src/write.rt:60:9
 returns : tie.Need-returns
 returns c = rw (eq-eqb _ 2 (c .before .if1 .taken)) refl
 
--- src/write.rt:56:1
 returns-2 : tie.Need-returns-2
 returns-2 c = rw (ne-eqb _ 2 (c .if1 .left)) refl
 

@@ -1,3 +1,4 @@
+-- `write::number` meets its contract. Assumes nothing.
 use native.Mathlib.Omega.{arith}
 use Prim.Native.Nat.{_≤_}
 use lib.ListN.{length}
@@ -7,27 +8,19 @@ use Rattle.explanation.proofs.Appending.{behind, within}
 use borrow.Author.Needs.{needs}
 use Rattle.explanation.proofs.write.number.Statement.{statement}
 use Rattle.explanation.proofs.write.number.Tie as tie
-use Rattle.explanation.proofs.write.number.Reads as reads
-use Rattle.explanation.proofs.write.number.Lts as lts
-use Rattle.explanation.proofs.write.decimal.Reads as decimal-reads
-use Rattle.explanation.proofs.write.piece.Reads as piece-reads
 
 digits : (s : tie.Start) → length (decimal (s .args .n)) ≤ 20
 digits s = decimal-most 19 (s .args .n) (omega arith)
 
--- src/write.rt:37:9
 piece-requires : tie.Need-piece-requires
 piece-requires c κs = search needs
 
--- src/write.rt:38:5
 decimal-requires : tie.Need-decimal-requires
 decimal-requires c κs = omega (arith, digits (c .before .before .before .before .before .before .before))
 
--- src/write.rt:33:1
 same-length : tie.Need-same-length
 same-length c = search needs
 
--- src/write.rt:33:1
 returns : tie.Need-returns
 returns c =
     let call = c .before .before in

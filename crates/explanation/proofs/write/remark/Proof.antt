@@ -1,31 +1,24 @@
+-- `write::remark` meets its contract. Assumes nothing.
 use Rattle.basics.specs.Choice.{choose}
 use Rattle.explanation.specs.Line.{remarkText}
 use Rattle.explanation.proofs.Appending.{nothing}
 use borrow.Author.Needs.{needs}
 use Rattle.explanation.proofs.write.remark.Statement.{statement}
 use Rattle.explanation.proofs.write.remark.Tie as tie
-use Rattle.explanation.proofs.write.remark.Reads as reads
-use Rattle.explanation.proofs.write.remark.Lts as lts
-use Rattle.explanation.proofs.write.piece.Reads as piece-reads
 
--- src/write.rt:70:22
 slice-aggregate-piece : tie.Need-slice-aggregate-piece
 slice-aggregate-piece c = search needs
 
--- src/write.rt:70:9
 piece-requires : tie.Need-piece-requires
 piece-requires c κs = search needs
 
--- src/write.rt:70:9
 same-length : tie.Need-same-length
 same-length c = search needs
 
--- src/write.rt:70:9
 returns : tie.Need-returns
 unfolding remarkText choose
 returns c = rw (c .before .before .before .before .before .if1 .taken) (c .before .before .piece .ensures)
 
--- src/write.rt:65:1
 returns-2 : tie.Need-returns-2
 unfolding remarkText choose
 returns-2 c = rw (c .if1 .left) (nothing _ _ _)
