@@ -1,69 +1,20 @@
 // Lists a recording from standard input to standard output: all that it decides is `listing::list`.
-// A program has no exit status, so what went wrong is a line on standard error, which ./list turns into one.
-ghost use Rattle.io.specs.Counts.{Counts};
-use libc::STDERR_FILENO;
-use libc::STDIN_FILENO;
-use libc::STDOUT_FILENO;
 use listing::MOST;
 use listing::ROOM;
-
-// Reads once, and answers how many bytes came: none where the recording ends, and where the read fails, which is told.
-fn read_some(input: &mut [u8]) -> usize
-    ensures { λ r. ⌜ Counts r (now (input .exit)) ⌝ }
-{
-    let got = libc::read(STDIN_FILENO, input);
-    if got < 0 {
-        os::fail(b"standard input");
-    }
-    io::count(got, input)
-}
-
-// Reads until `input` is full or nothing more comes, and answers how many bytes there are.
-fn read_recording(input: &mut [u8]) -> usize
-    ensures { λ r. ⌜ Counts r (now (input .exit)) ⌝ }
-{
-    let mut size = 0;
-    while size < input.len() {
-        let more = read_some(&mut input[size..]);
-        if more == 0 {
-            break;
-        }
-        size += more;
-    }
-    size
-}
-
-// Closing shows what writing didn't, as where a full disk is found out late.
-fn write_listing(text: &[u8]) {
-    let mut is_written = io::write_all(STDOUT_FILENO, text);
-    if is_written {
-        is_written = libc::close(STDOUT_FILENO) == 0;
-    }
-    if !is_written {
-        os::fail(b"standard output");
-    }
-}
-
-// An empty listing may be that of a file in another format.
-fn tell_no_record(size: usize) {
-    io::write_all(STDERR_FILENO, b"no record found, bytes looked at: ");
-    io::print_decimal(STDERR_FILENO, size as u64);
-    io::write_all(STDERR_FILENO, b"\n");
-}
 
 fn main() {
     // One byte more than is listed shows that there is more.
     let mut input = [0u8; MOST + 1];
     let mut out = [0u8; ROOM];
-    let size = read_recording(&mut input);
+    let size = stdio::read_input(&mut input);
     let written = listing::list(&input[..size], &mut out);
-    write_listing(listing::written_text(&out, written));
+    stdio::write_output(listing::written_text(&out, written));
     if size > MOST {
-        io::write_all(STDERR_FILENO, b"too long: more than 65,536 bytes\n");
+        stdio::tell_too_long();
     }
     if size > 0 {
         if written.length == 0 {
-            tell_no_record(size);
+            stdio::tell_no_record(size);
         }
     }
 }

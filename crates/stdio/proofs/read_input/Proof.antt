@@ -1,12 +1,12 @@
--- `read_recording` is safe and ends: each turn reads at least a byte, and the measure is what is left of the buffer. Assumes nothing.
+-- `read_input` is safe and ends: each turn reads at least a byte, and the measure is what is left of the buffer. Assumes nothing.
 use borrow.Author.Needs.{needs}
 use Prim.Native.Nat.{ℕ, _-_, _≤_}
 use native.Mathlib.Omega.{arith}
 use mathlib.Core.Path.{_≡_, refl, sym}
 use lib.ListN.{length}
 use lib.Seq.{length-take-le}
-use Rattle.lister.proofs.read_recording.Statement.{statement}
-use Rattle.lister.proofs.read_recording.Tie as tie
+use Rattle.stdio.proofs.read_input.Statement.{statement}
+use Rattle.stdio.proofs.read_input.Tie as tie
 
 abbrev Inv-loop : tie.InvT-loop
 Inv-loop input₀ size₀ input size = (size ≤ length input) × (length input ≡ length input₀)
@@ -50,8 +50,8 @@ same-length-2 c = search needs
 returns-2 : tie.Need-returns-2 Inv-loop μ-loop
 returns-2 c = (omega arith, sym (length-take-le _ _ (omega arith)))
 
-pub read-recording-spec : {M : Type 1} → statement M
-read-recording-spec =
+pub read-input-spec : {M : Type 1} → statement M
+read-input-spec =
     tie.close
     (tie.spec
     Inv-loop
