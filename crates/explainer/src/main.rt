@@ -2,6 +2,17 @@
 use explanation::ROOM;
 use listing::MOST;
 
+fn print_with(recording: &[u8], out: &mut [u8]) {
+    let written = explanation::explain(recording, out);
+    stdio::write_output(listing::written_text(out, written));
+}
+
+// The output is a local of this function alone: the prover can't count so many bytes, and a law has to tell their number.
+fn print_explanation(recording: &[u8]) {
+    let mut out = [0u8; ROOM];
+    print_with(recording, &mut out);
+}
+
 // An explanation is empty where all is well, so whether there is a record is asked for itself.
 fn has_record(recording: &[u8]) -> bool {
     let mut payload = [0u8; 508]; // no record's payload is longer
@@ -11,10 +22,8 @@ fn has_record(recording: &[u8]) -> bool {
 fn main() {
     // One byte more than is explained shows that there is more.
     let mut input = [0u8; MOST + 1];
-    let mut out = [0u8; ROOM];
     let size = stdio::read_input(&mut input);
-    let written = explanation::explain(&input[..size], &mut out);
-    stdio::write_output(listing::written_text(&out, written));
+    print_explanation(&input[..size]);
     if size > MOST {
         stdio::tell_too_long();
     } else if size > 0 {
