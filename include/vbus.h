@@ -38,7 +38,7 @@
 
 /* The version of this library, not of a stream. */
 #define VBUS_VERSION_MAJOR 0
-#define VBUS_VERSION_MINOR 3
+#define VBUS_VERSION_MINOR 4
 #define VBUS_VERSION_PATCH 0
 
 /* The longest payload and the longest stream, both those of a packet with 127 frames. */
@@ -93,6 +93,17 @@ typedef struct {
     vbus_header header;
     size_t payload_length; /* bytes written to the payload buffer */
 } vbus_found;
+
+typedef struct {
+    bool found;
+    size_t place; /* where the 0xAA stands in the input */
+    uint8_t verdict; /* enum vbus_verdict */
+    size_t offset; /* counted from the 0xAA */
+    bool has_byte;
+    uint8_t byte; /* found at the offset */
+    bool has_wanted;
+    uint8_t wanted; /* the right checksum at the offset */
+} vbus_fault;
 
 /* A receiver between two calls, with its memory. All zero bytes are a fresh one. */
 typedef struct {
@@ -168,6 +179,16 @@ vbus_validation vbus_validate(const uint8_t *input, size_t n);
  *   VBUS_START_PAST_END (6): start is above n (start == n is fine: there is none)
  *   VBUS_OUTPUT_TOO_SHORT (5): room is less than the payload of the stream found */
 vbus_found vbus_next(const uint8_t *input, size_t n, size_t start, uint8_t *payload, size_t room);
+
+/* Finds the first 0xAA at `start` or later that gave no record, and says why: `verdict` and `offset` are those that
+ * vbus_validate gives of the bytes from there to the input's end. The bytes before the offset could still have grown
+ * into a whole stream; with the byte found at the offset, `byte`, they no longer can. Where it is 0xAA, the stream was
+ * cut off by a new one. `has_byte` is false, and `byte` 0, exactly for VBUS_VERDICT_ENDED: all the bytes that there are
+ * could have grown on. `has_wanted` is true exactly for VBUS_VERDICT_HEADER_CHECKSUM and VBUS_VERDICT_FRAME_CHECKSUM;
+ * `wanted` is then the checksum that would have been right at the offset, else 0.
+ * To read a whole recording call again from place + 1; all these calls together take time linear in n. Where there is
+ * none, also where start is n or above, `found` is false and every other field 0. */
+vbus_fault vbus_next_fault(const uint8_t *input, size_t n, size_t start);
 
 /* Takes in bytes as they arrive, a chunk at a time, cut anyhow and possibly empty, up to the byte that completes a whole
  * stream, and reads its record; with no such byte it takes in all of them. A stream that is shorter than it announces

@@ -59,6 +59,10 @@ fn reading() {
     let fault: &dyn core::error::Error = &fault;
     let text = "at offset 3: a later byte is 0x80 or more";
     assert_eq!(Line::of(fault).text(), text);
+    let mut faults = vbus::faults(&RECORDING);
+    let text = "0 V2 3 AA cut off by a new stream";
+    assert_eq!(Line::of(faults.next().unwrap()).text(), text);
+    assert_eq!(faults.next(), None);
 }
 
 fn receiving() {

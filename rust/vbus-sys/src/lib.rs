@@ -61,6 +61,28 @@ pub struct Found {
     pub payload_length: usize,
 }
 
+/// A 0xAA that gave no record, and why.
+#[repr(C)]
+#[derive(Clone, Copy, PartialEq, Eq, Debug, Default)]
+pub struct Fault {
+    /// Whether there is one.
+    pub found: bool,
+    /// Where the 0xAA stands.
+    pub place: usize,
+    /// The number of the fault.
+    pub verdict: u8,
+    /// The offset of the fault, counted from the 0xAA.
+    pub offset: usize,
+    /// Whether there is a byte at the offset, which isn't so where the input ended first.
+    pub has_byte: bool,
+    /// The byte at the offset.
+    pub byte: u8,
+    /// Whether a checksum stands at the offset, and is wrong.
+    pub has_wanted: bool,
+    /// The checksum that would have been right there.
+    pub wanted: u8,
+}
+
 /// A receiver between two calls, with its memory. The default is a fresh one.
 #[repr(C)]
 #[derive(Clone, Copy, PartialEq, Eq, Debug, Default)]
@@ -156,6 +178,9 @@ extern "C" {
         payload: *mut u8,
         room: usize,
     ) -> Found;
+
+    /// The first 0xAA at `start` or later that gave no record, and why.
+    pub fn vbus_next_fault(input: *const u8, n: usize, start: usize) -> Fault;
 
     /// Takes in a chunk up to the end of the first record; its payload goes to `payload`.
     pub fn vbus_receive(

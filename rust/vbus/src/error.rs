@@ -115,6 +115,17 @@ pub struct Fault {
     pub offset: usize,
 }
 
+impl Fault {
+    /// A fault as the library gives it.
+    pub(crate) fn from_sys(verdict: u8, offset: usize) -> Fault {
+        Fault {
+            verdict: Verdict::from_number(verdict)
+                .expect("libvbus gives only verdicts of the table"),
+            offset,
+        }
+    }
+}
+
 impl fmt::Display for Fault {
     fn fmt(&self, f: &mut fmt::Formatter<'_>) -> fmt::Result {
         write!(f, "at offset {}: {}", self.offset, self.verdict)

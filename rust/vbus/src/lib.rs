@@ -22,6 +22,8 @@
 //! What arrives in chunks, such as from a serial port, is read with a [`Receiver`], or with a
 //! `RecordReader` over anything that implements `std::io::Read`.
 //!
+//! Why a recording gave fewer records than expected is told by [`faults`].
+//!
 //! The archive is taken from the folder that the environment variable `VBUS_LIB_DIR` names at
 //! build time, else from `target/staticlib` at the repository's top, where `./build vbus` puts it.
 //!
@@ -33,6 +35,7 @@
 #![deny(missing_docs)]
 
 mod error;
+mod faults;
 mod header;
 mod receiver;
 #[cfg(feature = "std")]
@@ -42,6 +45,7 @@ mod record_reader;
 mod sections;
 
 pub use error::{Error, Fault, Verdict};
+pub use faults::{faults, FaultEntry, Faults};
 pub use header::{Header, Kind};
 #[cfg(feature = "std")]
 pub use receiver::ReceivedRecords;
@@ -159,11 +163,7 @@ pub fn validate(input: &[u8]) -> Result<Whole, Fault> {
             length: answer.offset,
             unused_septets: answer.unused_septets,
         }),
-        number => Err(Fault {
-            verdict: Verdict::from_number(number)
-                .expect("libvbus gives only verdicts of the table"),
-            offset: answer.offset,
-        }),
+        verdict => Err(Fault::from_sys(verdict, answer.offset)),
     }
 }
 

@@ -183,5 +183,5 @@ fn functions_are_those_of_the_header() {
     let path = concat!(env!("CARGO_MANIFEST_DIR"), "/../vbus-sys/src/lib.rs");
     let declarations = fs::read_to_string(path).expect("rust/vbus-sys can be read");
     assert_eq!(functions(&declarations), functions(&header()));
-    assert!(functions(&declarations).len() >= 15);
+    assert!(functions(&declarations).len() >= 16);
 }
