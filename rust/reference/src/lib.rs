@@ -7,8 +7,10 @@
 
 #![forbid(unsafe_code)]
 
+mod faults;
 mod receiver;
 
+pub use faults::{faults, line, next_fault, Fault};
 pub use receiver::{Received, Receiver};
 
 /// Starts every stream, and occurs nowhere else in one.
@@ -197,16 +199,16 @@ struct Stream {
 
 /// What is wrong with a stream, and where.
 #[derive(Clone, Copy)]
-struct Fault {
+struct FirstFault {
     verdict: u8,
     offset: usize,
 }
 
-type Parsed<T> = Result<T, Fault>;
+type Parsed<T> = Result<T, FirstFault>;
 
 #[inline]
 fn fault<T>(verdict: u8, offset: usize) -> Parsed<T> {
-    Err(Fault { verdict, offset })
+    Err(FirstFault { verdict, offset })
 }
 
 /// Bytes `from..to` are there and below 0x80.
@@ -314,7 +316,7 @@ pub fn validate(input: &[u8]) -> Validation {
             offset: stream.length,
             unused_septets: unused_septets(input, stream),
         },
-        Err(Fault { verdict, offset }) => Validation {
+        Err(FirstFault { verdict, offset }) => Validation {
             verdict,
             offset,
             unused_septets: 0,

@@ -557,3 +557,57 @@ fn receiving_without_room() {
     assert!(receiver.receive(&P1[15..], &mut payload[..508]).found);
     assert_eq!(payload[..5], [0x07, 0x04, 0x0F, 0x00, 0xEE]);
 }
+
+fn fault_lines(input: &[u8]) -> Vec<String> {
+    super::faults(input).map(|fault| line(&fault)).collect()
+}
+
+/// The stream with another byte at that offset.
+fn with<const N: usize>(mut stream: [u8; N], at: usize, byte: u8) -> [u8; N] {
+    stream[at] = byte;
+    stream
+}
+
+#[test]
+fn fault_lines_of_the_request() {
+    let wrong = with(T1, 7, 0x77);
+    assert_eq!(fault_lines(&[&D1[..], &wrong].concat()), ["16 V4 7 77 76"]);
+    let cut_off = ["0 V2 1 AA cut off by a new stream"];
+    assert_eq!(fault_lines(&[&[0xAA][..], &P1].concat()), cut_off);
+}
+
+#[test]
+fn faults_of_each_verdict() {
+    for (input, expected) in [
+        (&with(P1, 1, 0x91)[..], "0 V2 1 91"),
+        (&with(T1, 7, 0xF6), "0 V2 7 F6"),
+        (&with(T1, 5, 0x32), "0 V3 5 32"),
+        (&with(P1, 9, 0x20), "0 V4 9 20 21"),
+        (&with(D1, 15, 0x04), "0 V4 15 04 14"),
+        (&with(D1, 14, 0x40), "0 V4 15 14 54"),
+        (&with(P1, 15, 0x64), "0 V6 15 64 65"),
+        (&with(P1, 14, 0x10), "0 V6 15 65 55"),
+        (&with(P3, 21, 0x00), "0 V6 21 00 5D"),
+        (&with(T2, 16, 0x01), "0 V6 16 01 71"),
+        (&[0xAA], "0 V7 1"),
+        (&P1[..9], "0 V7 9"),
+        (&T3[..16], "0 V7 16"),
+    ] {
+        assert_eq!(fault_lines(input), [expected]);
+    }
+}
+
+#[test]
+fn faults_from_any_start() {
+    let recording = [&[0x00, 0xAA][..], &T1, &T1[..7]].concat();
+    let places = [1, 1, 10, 10];
+    for (start, place) in places.into_iter().enumerate() {
+        assert_eq!(next_fault(&recording, start).place, place);
+    }
+    for start in [11, 17, 18, usize::MAX] {
+        assert_eq!(next_fault(&recording, start), Fault::default());
+    }
+    for clean in [&[][..], &[0x80, 0xFF], &P3, &[&P1[..], &D1, &T2].concat()] {
+        assert_eq!(next_fault(clean, 0), Fault::default());
+    }
+}
