@@ -9,7 +9,7 @@ use reference::{Header, Validation};
 pub type Class = (&'static str, fn(&mut Checker) -> Checked<()>);
 
 /// The classes of random cases.
-pub const CLASSES: [Class; 21] = [
+pub const CLASSES: [Class; 22] = [
     ("valid", |c| c.random_recording(recordings::recording)),
     ("one bit", |c| c.random_recording(recordings::one_bit)),
     ("one byte", |c| c.random_recording(recordings::one_byte)),
@@ -30,6 +30,7 @@ pub const CLASSES: [Class; 21] = [
     ("broken sections", Checker::random_broken_sections),
     ("septets", Checker::random_septets),
     ("checksum and value", Checker::random_sums),
+    ("faults: any start", Checker::faults_from_any_start),
     ("receive: cut", Checker::receive_cut),
     ("receive: any state", Checker::receive_in_any_state),
     ("receive: resets", Checker::receive_with_resets),
@@ -70,7 +71,7 @@ impl Checker {
             let stream = &input[record.place..][..record.length];
             self.count(unused_class(stream));
         }
-        Ok(())
+        self.random_faults(&input)
     }
 
     /// A checksum that leaves unused septet bits out is wrong, though what is read would be the same.
@@ -111,6 +112,7 @@ impl Checker {
         self.validate(&input[from..])?;
         self.places(input)?;
         let records = self.records(input)?;
+        self.all_faults(input, &records)?;
 
         let (_, normal) = self.normalize(input, input.len())?;
         let need = normal.len();
@@ -173,7 +175,7 @@ impl Checker {
         })
     }
 
-    /// `next` from places around both ends and somewhere between.
+    /// `next` and `next_fault` from places around both ends and somewhere between.
     fn places(&mut self, input: &[u8]) -> Checked<()> {
         let n = input.len();
         let between = self.rng.below(n + 1);
@@ -182,6 +184,7 @@ impl Checker {
                 .rng
                 .pick(&[0, 3, 4, 6, 7, MAX_PAYLOAD, MAX_PAYLOAD + 1]);
             self.next(input, start, room)?;
+            self.next_fault(input, start)?;
         }
         Ok(())
     }
@@ -528,10 +531,11 @@ impl Checker {
             input.push(0xAA);
         }
         self.recording(&input)?;
-        for start in (0..input.len() + 3).chain([usize::MAX - 1, usize::MAX]) {
+        for start in (0..input.len() + 3).chain([1 << 32, usize::MAX - 1, usize::MAX]) {
             for room in 0..24 {
                 self.next(&input, start, room)?;
             }
+            self.next_fault(&input, start)?;
         }
         for room in 0..input.len() + 3 {
             self.normalize(&input, room)?;
@@ -539,6 +543,7 @@ impl Checker {
         for from in 0..=input.len() {
             for to in from..=input.len() {
                 self.validate(&input[from..to])?;
+                self.next_fault(&input[from..to], 0)?;
             }
         }
         Ok(())
@@ -567,6 +572,7 @@ impl Checker {
                     let mut input = stream.clone();
                     input[at] ^= 1 << bit;
                     self.recording(&input)?;
+                    self.all_reasons(&input)?;
                     input.extend(&stream);
                     self.recording(&input)?;
                 }
@@ -577,6 +583,7 @@ impl Checker {
                     let mut input = stream.clone();
                     input[at] = byte;
                     self.validate(&input)?;
+                    self.next_fault(&input, 0)?;
                 }
             }
         }
@@ -589,6 +596,7 @@ impl Checker {
         for end in 0..=packet.len() {
             self.validate(&packet[..end])?;
             self.next(&packet[..end], 0, MAX_PAYLOAD)?;
+            self.all_reasons(&packet[..end])?;
             self.normalize(&packet[..end], end)?;
             let input = [&packet[..end], &packet[..]].concat();
             self.next(&input, 0, MAX_PAYLOAD)?;
@@ -666,6 +674,7 @@ impl Checker {
                     wrong[septet] ^= self.rng.pick(&[0x10, 0x20, 0x40]);
                     self.validated(&wrong, 6, septet + 1, 0)?;
                     self.next(&wrong, 0, MAX_PAYLOAD)?;
+                    self.next_fault(&wrong, 0)?;
                 }
             }
         }
@@ -774,6 +783,7 @@ impl Checker {
             let (written, _) = self.normalize(&input, LENGTH)?;
             self.normalize(&input, written.length)?;
             self.normalize(&input, written.length.saturating_sub(1))?;
+            self.told_faults(&input)?;
             self.count("long input");
         }
         self.receive_long()

@@ -4,7 +4,7 @@ use crate::library;
 use crate::naive;
 use crate::recordings::{MAX_PAYLOAD, MAX_STREAM};
 use crate::rng::Rng;
-use reference::{Count, Found, Header, Part, Received, Validation, Written};
+use reference::{Count, Fault, Found, Header, Part, Received, Validation, Written};
 use std::collections::BTreeMap;
 use std::fmt;
 use std::fs::File;
@@ -328,6 +328,27 @@ impl Checker {
         self.number(found.number);
         let payload = left[output.from..output.from + found.payload_length].to_vec();
         Ok((found, payload))
+    }
+
+    /// The answer's verdict and offset are also those of `vbus_validate`.
+    pub fn next_fault(&mut self, input: &[u8], start: usize) -> Checked<Fault> {
+        let call = || {
+            let input = hex(input);
+            format!("vbus_next_fault(input = {input}, start = {start})")
+        };
+        let fault = self.same(
+            call,
+            || library::next_fault(input, start),
+            || reference::next_fault(input, start),
+        )?;
+        if fault.found {
+            let stretch = library::validate(&input[fault.place..]);
+            let same = (stretch.verdict, stretch.offset) == (fault.verdict, fault.offset);
+            self.holds(same, || {
+                format!("{} gives what vbus_validate gives: {stretch:?}", call())
+            })?;
+        }
+        Ok(fault)
     }
 
     /// One call of a receiver, which may be in any state, against the naive definition.

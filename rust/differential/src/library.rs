@@ -1,6 +1,6 @@
 //! The archive's exports with the reference's types, so that answers can be compared.
 
-use reference::{Count, Found, Header, Part, Received, Septets, Validation, Written};
+use reference::{Count, Fault, Found, Header, Part, Received, Septets, Validation, Written};
 
 /// An answer as the reference's struct of that name. Every field of both is named, so that none
 /// can be left out of a comparison.
@@ -63,6 +63,14 @@ pub fn next(input: &[u8], start: usize, payload: &mut [u8]) -> Found {
         header: as_reference!(header => Header { version, destination, source, command }),
         payload_length,
     }
+}
+
+pub fn next_fault(input: &[u8], start: usize) -> Fault {
+    // SAFETY: pointer and count are those of a slice.
+    let answer = unsafe { vbus_sys::vbus_next_fault(input.as_ptr(), input.len(), start) };
+    as_reference!(answer => Fault {
+        found, place, verdict, offset, has_byte, byte, has_wanted, wanted
+    })
 }
 
 /// A receiver that holds `held` bytes of its memory, which has 772; also how many it then holds.

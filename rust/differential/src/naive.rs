@@ -1,7 +1,8 @@
 //! A recording's records by the rule itself: every place is tried, and every record is written
 //! anew. The reference, like the library, goes on at a fault and copies whole streams that have no
 //! unused septet bits; here neither shortcut is taken. A checksum and a receiver by their rules, byte
-//! after byte, the receiver in any state.
+//! after byte, the receiver in any state. And whether bytes can still grow into a whole stream, by
+//! letting them grow.
 
 use crate::recordings::{self, MAX_PAYLOAD, MAX_STREAM};
 use reference::{Header, Received};
@@ -191,5 +192,51 @@ fn delivered(stream: &[u8], used: usize, payload: &mut [u8]) -> Received {
         length: stream.len(),
         header: record.header,
         payload_length,
+    }
+}
+
+/// The bytes, with others behind them that make a whole stream of them, if it is one in the end. Where
+/// the rules leave the next byte free it is `free`'s, or at the version's place `version`.
+pub fn grown_with(bytes: &[u8], version: u8, mut free: impl FnMut() -> u8) -> Option<Vec<u8>> {
+    let mut stream = bytes.to_vec();
+    while stream.len() < announced(&stream) {
+        stream.push(match stream.len() {
+            0 => 0xAA,
+            5 => version,
+            _ => summed_next(&stream).map_or_else(&mut free, checksum),
+        });
+    }
+    whole(&stream).then_some(stream)
+}
+
+/// Whether bytes can grow into a whole stream: if any bytes make them one, then so do zeros, with a
+/// packet's version and right checksums, since no rule speaks of the other bytes behind them.
+pub fn can_grow(bytes: &[u8]) -> bool {
+    grown_with(bytes, 0x10, || 0).is_some()
+}
+
+/// The bytes whose checksum comes next in a stream that begins with these; `None` where another byte
+/// comes next.
+fn summed_next(stream: &[u8]) -> Option<&[u8]> {
+    let at = stream.len();
+    let (header, first, frame) = recordings::layout(*stream.get(5)?)?;
+    if at == header {
+        return Some(&stream[1..]);
+    }
+    let in_frames = frame > 0 && at >= first;
+    (in_frames && (at - first) % frame == frame - 1).then(|| &stream[at - (frame - 1)..])
+}
+
+/// The verdict on a byte with which bytes that could grow no longer can, by its place.
+pub fn verdict(before: &[u8], byte: u8) -> u8 {
+    let at = before.len();
+    let header = before
+        .get(5)
+        .and_then(|&version| recordings::layout(version));
+    match header {
+        _ if byte >= 0x80 => 2,
+        None => 3,
+        Some((header, _, _)) if at == header => 4,
+        Some(_) => 6,
     }
 }

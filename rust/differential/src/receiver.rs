@@ -37,7 +37,7 @@ const RECORDINGS: [fn(&mut Rng) -> Vec<u8>; 11] = [
     recordings::random,
 ];
 
-fn any_recording(rng: &mut Rng) -> Vec<u8> {
+pub fn any_recording(rng: &mut Rng) -> Vec<u8> {
     rng.pick(&RECORDINGS)(rng)
 }
 

@@ -179,7 +179,7 @@ pub fn repeated(rng: &mut Rng) -> Vec<u8> {
 
 /// The offset of the header's checksum, the first frame and the length of a frame; a datagram has
 /// no frames.
-fn layout(version: u8) -> Option<(usize, usize, usize)> {
+pub fn layout(version: u8) -> Option<(usize, usize, usize)> {
     match version {
         0x10 => Some((9, 10, 6)),
         0x20 => Some((15, 16, 0)),
