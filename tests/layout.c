@@ -82,6 +82,16 @@ static int whole_is(vbus_validation a, size_t length, size_t unused_septets) {
 static int fault_is(vbus_validation a, uint8_t verdict, size_t offset) {
     return a.verdict == verdict && a.offset == offset && a.unused_septets == 0;
 }
+static int next_fault_is(vbus_fault a, size_t place, uint8_t verdict, size_t offset, uint8_t byte) {
+    return (int)a.found == 1 && a.place == place && a.verdict == verdict && a.offset == offset &&
+           (int)a.has_byte == (verdict != VBUS_VERDICT_ENDED) && a.byte == byte;
+}
+static int wanted_is(vbus_fault a, uint8_t wanted) { return (int)a.has_wanted == 1 && a.wanted == wanted; }
+static int nothing_wanted(vbus_fault a) { return (int)a.has_wanted == 0 && a.wanted == 0; }
+static int no_fault(vbus_fault a) {
+    return (int)a.found == 0 && a.place == 0 && a.verdict == 0 && a.offset == 0 && (int)a.has_byte == 0 && a.byte == 0 &&
+           nothing_wanted(a);
+}
 
 /* Document 01's numbers, written out once more: a name that has another one in the header shows here. */
 static const struct {
@@ -130,6 +140,9 @@ static void layouts(void) {
     CHECK(sizeof(vbus_found) == 40 && offsetof(vbus_found, number) == 0 && offsetof(vbus_found, found) == 4 &&
           offsetof(vbus_found, place) == 8 && offsetof(vbus_found, length) == 16 && offsetof(vbus_found, header) == 24 &&
           offsetof(vbus_found, payload_length) == 32);
+    CHECK(sizeof(vbus_fault) == 40 && offsetof(vbus_fault, found) == 0 && offsetof(vbus_fault, place) == 8 &&
+          offsetof(vbus_fault, verdict) == 16 && offsetof(vbus_fault, offset) == 24 && offsetof(vbus_fault, has_byte) == 32 &&
+          offsetof(vbus_fault, byte) == 33 && offsetof(vbus_fault, has_wanted) == 34 && offsetof(vbus_fault, wanted) == 35);
     CHECK(sizeof(vbus_receiver) == 8 && offsetof(vbus_receiver, held) == 0 && WIDTH(vbus_receiver, held) == 8);
     CHECK(sizeof(vbus_received) == 48 && offsetof(vbus_received, number) == 0 && offsetof(vbus_received, found) == 4 &&
           offsetof(vbus_received, used) == 8 && offsetof(vbus_received, length) == 16 &&
@@ -143,7 +156,8 @@ static void layouts(void) {
           offsetof(vbus_septets, length) == 16 && offsetof(vbus_septets, septet) == 24);
     CHECK(sizeof(bool) == 1 && WIDTH(vbus_validation, verdict) == 1 && WIDTH(vbus_validation, offset) == 8 &&
           WIDTH(vbus_validation, unused_septets) == 8 && WIDTH(vbus_found, number) == 4 &&
-          WIDTH(vbus_found, payload_length) == 8 && WIDTH(vbus_received, number) == 4 &&
+          WIDTH(vbus_found, payload_length) == 8 && WIDTH(vbus_fault, place) == 8 && WIDTH(vbus_fault, verdict) == 1 &&
+          WIDTH(vbus_fault, offset) == 8 && WIDTH(vbus_fault, wanted) == 1 && WIDTH(vbus_received, number) == 4 &&
           WIDTH(vbus_received, found) == 1 && WIDTH(vbus_received, used) == 8 && WIDTH(vbus_written, number) == 4 &&
           WIDTH(vbus_written, length) == 8 && WIDTH(vbus_count, number) == 4 && WIDTH(vbus_count, count) == 8 &&
           WIDTH(vbus_part, number) == 4 && WIDTH(vbus_part, length) == 8 && WIDTH(vbus_septets, number) == 4 &&
@@ -262,6 +276,34 @@ static void finding(void) {
     CHECK(nothing_found(vbus_next(input, MIXED, 0, payload, 19), VBUS_OUTPUT_TOO_SHORT));
     CHECK(nothing_found(vbus_next(input, MIXED, MIXED + 1, payload, 0), VBUS_START_PAST_END));
     CHECK(painted(payload, 0, sizeof payload));
+}
+
+/* the recording with a byte changed in each of the first three streams, and without its last byte */
+static void telling_faults(void) {
+    uint8_t input[MIXED], before[MIXED];
+    mix(input);
+    const uint8_t frame = input[42], head = input[50];
+    input[42] ^= 0x2A;
+    input[50] ^= 0x11;
+    input[65] = 0x41;
+    memcpy(before, input, MIXED);
+    vbus_fault answer = vbus_next_fault(input, MIXED - 1, 0);
+    CHECK(next_fault_is(answer, 1, VBUS_VERDICT_HIGH_BYTE, 1, 0x99) && nothing_wanted(answer));
+    answer = vbus_next_fault(input, MIXED - 1, 2);
+    CHECK(next_fault_is(answer, 3, VBUS_VERDICT_FRAME_CHECKSUM, 39, frame ^ 0x2A) && wanted_is(answer, frame));
+    answer = vbus_next_fault(input, MIXED - 1, 4);
+    CHECK(next_fault_is(answer, 43, VBUS_VERDICT_HEADER_CHECKSUM, 7, head ^ 0x11) && wanted_is(answer, head));
+    answer = vbus_next_fault(input, MIXED - 1, 44);
+    CHECK(next_fault_is(answer, 60, VBUS_VERDICT_UNKNOWN_VERSION, 5, 0x41) && nothing_wanted(answer));
+    answer = vbus_next_fault(input, MIXED - 1, 61);
+    CHECK(next_fault_is(answer, 68, VBUS_VERDICT_ENDED, 15, 0) && nothing_wanted(answer));
+    CHECK(no_fault(vbus_next_fault(input, MIXED - 1, 69)));
+    CHECK(no_fault(vbus_next_fault(input, MIXED, 61)));
+    CHECK(no_fault(vbus_next_fault(input, MIXED, MIXED)));
+    CHECK(no_fault(vbus_next_fault(input, MIXED, MIXED + 1)));
+    CHECK(no_fault(vbus_next_fault(input, MIXED, (size_t)1 << 32)));
+    CHECK(no_fault(vbus_next_fault(input, MIXED, (size_t)-1)));
+    CHECK(memcmp(input, before, MIXED) == 0);
 }
 
 static const vbus_receiver fresh = {0};
@@ -505,6 +547,7 @@ static void null_with_zero(void) {
     CHECK(nothing_found(vbus_next(NULL, 0, 0, NULL, 0), 0));
     CHECK(nothing_found(vbus_next(NULL, 0, 1, NULL, 0), VBUS_START_PAST_END));
     CHECK(found_is(vbus_next(clearance, 8, 0, NULL, 0), 0, 1, 0, 8, clearance_header(), 0));
+    CHECK(no_fault(vbus_next_fault(NULL, 0, 0)) && no_fault(vbus_next_fault(NULL, 0, 1)));
     CHECK(nothing_found(vbus_next(datagram, 16, 0, NULL, 0), VBUS_OUTPUT_TOO_SHORT));
     CHECK(nothing_found(vbus_next(telegram, 17, 0, NULL, 0), VBUS_OUTPUT_TOO_SHORT));
     memcpy(memory, clearance, 7);
@@ -534,6 +577,7 @@ int main(void) {
     checksum_and_septets();
     verdicts();
     finding();
+    telling_faults();
     receiving();
     receiving_the_longest();
     resetting();

@@ -20,13 +20,13 @@
 
 /* the four section functions last: they have a limit of their own */
 enum {
-    CHECKSUM, EXTRACT, INJECT, VALIDATE, NEXT, RECEIVE, RESET, ENCODE, NORMALIZE, VALUE, TEMPERATURE,
+    CHECKSUM, EXTRACT, INJECT, VALIDATE, NEXT, NEXT_FAULT, RECEIVE, RESET, ENCODE, NORMALIZE, VALUE, TEMPERATURE,
     SECTION_COUNT, SECTION, ELEMENT_COUNT, ELEMENT, EXPORTS
 };
 static const char *const names[EXPORTS] = {
-    "vbus_checksum", "vbus_extract", "vbus_inject", "vbus_validate", "vbus_next", "vbus_receive", "vbus_reset",
-    "vbus_encode", "vbus_normalize", "vbus_value", "vbus_temperature", "vbus_section_count", "vbus_section",
-    "vbus_element_count", "vbus_element"};
+    "vbus_checksum", "vbus_extract", "vbus_inject", "vbus_validate", "vbus_next", "vbus_next_fault", "vbus_receive",
+    "vbus_reset", "vbus_encode", "vbus_normalize", "vbus_value", "vbus_temperature", "vbus_section_count",
+    "vbus_section", "vbus_element_count", "vbus_element"};
 
 /* the arguments of the call under measurement */
 static struct {
@@ -51,6 +51,7 @@ static EMPTY vbus_septets no_extract(UNUSED const uint8_t *a, UNUSED size_t b) {
 static EMPTY vbus_septets no_inject(UNUSED const uint8_t *a, UNUSED size_t b, UNUSED uint8_t c) { static vbus_septets z; __asm__(""); return z; }
 static EMPTY vbus_validation no_validate(UNUSED const uint8_t *a, UNUSED size_t b) { static vbus_validation z; __asm__(""); return z; }
 static EMPTY vbus_found no_next(UNUSED const uint8_t *a, UNUSED size_t b, UNUSED size_t c, UNUSED uint8_t *d, UNUSED size_t e) { static vbus_found z; __asm__(""); return z; }
+static EMPTY vbus_fault no_next_fault(UNUSED const uint8_t *a, UNUSED size_t b, UNUSED size_t c) { static vbus_fault z; __asm__(""); return z; }
 static EMPTY vbus_received no_receive(UNUSED vbus_receiver a, UNUSED uint8_t *b, UNUSED const uint8_t *c, UNUSED size_t d, UNUSED uint8_t *e, UNUSED size_t f) { static vbus_received z; __asm__(""); return z; }
 static EMPTY vbus_receiver no_reset(UNUSED vbus_receiver a) { static vbus_receiver z; __asm__(""); return z; }
 static EMPTY vbus_written no_encode(UNUSED vbus_header a, UNUSED const uint8_t *b, UNUSED size_t c, UNUSED uint8_t *d, UNUSED size_t e) { static vbus_written z; __asm__(""); return z; }
@@ -68,6 +69,7 @@ static vbus_septets (*volatile f_extract)(const uint8_t *, size_t);
 static vbus_septets (*volatile f_inject)(const uint8_t *, size_t, uint8_t);
 static vbus_validation (*volatile f_validate)(const uint8_t *, size_t);
 static vbus_found (*volatile f_next)(const uint8_t *, size_t, size_t, uint8_t *, size_t);
+static vbus_fault (*volatile f_next_fault)(const uint8_t *, size_t, size_t);
 static vbus_received (*volatile f_receive)(vbus_receiver, uint8_t *, const uint8_t *, size_t, uint8_t *, size_t);
 static vbus_receiver (*volatile f_reset)(vbus_receiver);
 static vbus_written (*volatile f_encode)(vbus_header, const uint8_t *, size_t, uint8_t *, size_t);
@@ -85,6 +87,7 @@ static void choose(int empty) {
     f_inject = empty ? no_inject : vbus_inject;
     f_validate = empty ? no_validate : vbus_validate;
     f_next = empty ? no_next : vbus_next;
+    f_next_fault = empty ? no_next_fault : vbus_next_fault;
     f_receive = empty ? no_receive : vbus_receive;
     f_reset = empty ? no_reset : vbus_reset;
     f_encode = empty ? no_encode : vbus_encode;
@@ -102,6 +105,7 @@ static union {
     vbus_septets septets;
     vbus_validation validation;
     vbus_found found;
+    vbus_fault fault;
     vbus_received received;
     vbus_receiver receiver;
     vbus_written written;
@@ -125,6 +129,7 @@ static void run(void) {
     case INJECT: answer.septets = f_inject(call.input, call.length, call.septet); break;
     case VALIDATE: answer.validation = f_validate(call.input, call.n); break;
     case NEXT: answer.found = f_next(call.input, call.n, call.start, call.out, call.room); break;
+    case NEXT_FAULT: answer.fault = f_next_fault(call.input, call.n, call.start); break;
     case RECEIVE: answer.received = f_receive(call.receiver, memory, call.input, call.n, call.out, call.room); break;
     case RESET: answer.receiver = f_reset(call.receiver); break;
     case ENCODE: answer.written = f_encode(call.header, call.input, call.n, call.out, call.room); break;
@@ -217,7 +222,19 @@ static void unfinished(size_t size, size_t at) {
     chunk((size_t)-1, stream, size);
 }
 
-/* validate, next, receive and normalize of what stands in the input */
+/* every fault of what stands in the input, each from behind the one before it, and from behind the last */
+static void faults(size_t n) {
+    call.input = input;
+    call.n = n;
+    vbus_fault fault = {0};
+    for (size_t start = 0; start == 0 || fault.found; start = fault.place + 1) {
+        call.start = start;
+        measure(NEXT_FAULT);
+        fault = vbus_next_fault(input, n, start);
+    }
+}
+
+/* validate, next, next_fault, receive and normalize of what stands in the input */
 static void recording(size_t n) {
     chunk(0, input, n);
     call.input = input;
@@ -226,6 +243,7 @@ static void recording(size_t n) {
     call.start = 0;
     measure(CHECKSUM);
     measure(VALIDATE);
+    measure(NEXT_FAULT);
     /* room for all; for nothing; for the payload of a short record, but for no stream: each ends another way */
     static const size_t rooms[3] = {sizeof out, 0, 7};
     for (int i = 0; i < 3; i++) {
@@ -370,6 +388,7 @@ static void stored(const char *name) {
     fclose(file);
     recording(size);
     received(size);
+    faults(size);
 }
 
 static void chains(void) {

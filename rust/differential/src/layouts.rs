@@ -2,7 +2,7 @@
 
 use crate::check::{Checked, Checker};
 use crate::library;
-use reference::{Count, Found, Header, Part, Received, Septets, Validation, Written};
+use reference::{Count, Fault, Found, Header, Part, Received, Septets, Validation, Written};
 use std::mem::{offset_of, size_of, transmute};
 
 const HEADER: Header = Header {
@@ -45,6 +45,20 @@ struct FoundBytes {
     payload_length: usize,
 }
 
+/// `Fault` with the flags as the bytes that they are.
+#[repr(C)]
+#[derive(PartialEq, Debug)]
+struct FaultBytes {
+    found: u8,
+    place: usize,
+    verdict: u8,
+    offset: usize,
+    has_byte: u8,
+    byte: u8,
+    has_wanted: u8,
+    wanted: u8,
+}
+
 /// `Received` with the flag as the byte that it is.
 #[repr(C)]
 struct ReceivedBytes {
@@ -74,6 +88,7 @@ impl Checker {
         self.note(|| "the first layout check".to_string());
         self.sizes()?;
         self.found()?;
+        self.fault()?;
         self.received()?;
         self.small_answers()?;
         self.septets_by_value()?;
@@ -82,6 +97,7 @@ impl Checker {
         self.parts()?;
         self.padding()?;
         self.flag()?;
+        self.fault_flags()?;
         self.received_flag()
     }
 
@@ -110,8 +126,9 @@ impl Checker {
             size_of::<vbus_sys::Septets>(),
             size_of::<vbus_sys::Receiver>(),
             size_of::<vbus_sys::Received>(),
+            size_of::<vbus_sys::Fault>(),
         ];
-        let expected = [8, 24, 40, 16, 16, 24, 32, 8, 48];
+        let expected = [8, 24, 40, 16, 16, 24, 32, 8, 48, 40];
         self.expect("sizes on x86-64", sizes, expected)?;
         let offsets = [
             offset_of!(vbus_sys::Validation, verdict),
@@ -139,7 +156,19 @@ impl Checker {
             offset_of!(vbus_sys::Received, receiver),
         ];
         let expected = [4, 8, 16, 24, 32, 40];
-        self.expect("offsets of Received on x86-64", offsets, expected)
+        self.expect("offsets of Received on x86-64", offsets, expected)?;
+        let offsets = [
+            offset_of!(vbus_sys::Fault, found),
+            offset_of!(vbus_sys::Fault, place),
+            offset_of!(vbus_sys::Fault, verdict),
+            offset_of!(vbus_sys::Fault, offset),
+            offset_of!(vbus_sys::Fault, has_byte),
+            offset_of!(vbus_sys::Fault, byte),
+            offset_of!(vbus_sys::Fault, has_wanted),
+            offset_of!(vbus_sys::Fault, wanted),
+        ];
+        let expected = [0, 8, 16, 24, 32, 33, 34, 35];
+        self.expect("offsets of Fault on x86-64", offsets, expected)
     }
 
     fn found(&mut self) -> Checked<()> {
@@ -167,6 +196,25 @@ impl Checker {
             ..Found::default()
         };
         self.expect("vbus_next behind the end", refused, expected)
+    }
+
+    fn fault(&mut self) -> Checked<()> {
+        let mut input = [&[0x01, 0x02, 0x03][..], &STREAM].concat();
+        input[3 + 21] = 0x5A;
+        let fault = library::next_fault(&input, 0);
+        let expected = Fault {
+            found: true,
+            place: 3,
+            verdict: 6,
+            offset: 21,
+            has_byte: true,
+            byte: 0x5A,
+            has_wanted: true,
+            wanted: 0x67,
+        };
+        self.expect("vbus_next_fault", fault, expected)?;
+        let none = library::next_fault(&input, 4);
+        self.expect("vbus_next_fault behind it", none, Fault::default())
     }
 
     fn received(&mut self) -> Checked<()> {
@@ -366,6 +414,37 @@ impl Checker {
                 answer.payload_length,
             );
             self.expect("vbus_next, with the flag as a byte", fields, expected)?;
+        }
+        Ok(())
+    }
+
+    /// All three flags are 0 or 1, with a wrong checksum, another wrong byte, an end, and no fault.
+    fn fault_flags(&mut self) -> Checked<()> {
+        type NextFault = unsafe extern "C" fn(*const u8, usize, usize) -> vbus_sys::Fault;
+        type NextFaultBytes = unsafe extern "C" fn(*const u8, usize, usize) -> FaultBytes;
+        // SAFETY: the two answers differ only in bool and u8, which have the same size.
+        let next = unsafe { transmute::<NextFault, NextFaultBytes>(vbus_sys::vbus_next_fault) };
+        let bytes = |flags: [u8; 3], verdict, offset, byte, wanted| FaultBytes {
+            found: flags[0],
+            place: 0,
+            verdict,
+            offset,
+            has_byte: flags[1],
+            byte,
+            has_wanted: flags[2],
+            wanted,
+        };
+        for (at, byte, n, expected) in [
+            (9, 0x15, 22, bytes([1, 1, 1], 4, 9, 0x15, 0x14)),
+            (5, 0x11, 22, bytes([1, 1, 0], 3, 5, 0x11, 0)),
+            (5, 0x10, 20, bytes([1, 0, 0], 7, 20, 0, 0)),
+            (5, 0x10, 22, bytes([0, 0, 0], 0, 0, 0, 0)),
+        ] {
+            let mut input = STREAM;
+            input[at] = byte;
+            // SAFETY: `n` is at most the array's length.
+            let answer = unsafe { next(input.as_ptr(), n, 0) };
+            self.expect("vbus_next_fault, with the flags as bytes", answer, expected)?;
         }
         Ok(())
     }
