@@ -21,6 +21,12 @@ pub fn next(input: &[u8], start: usize, payload: &mut [u8]) -> vbus_sys::Found {
 }
 
 #[inline(always)]
+pub fn next_fault(input: &[u8], start: usize) -> vbus_sys::Fault {
+    // SAFETY: pointer and count are those of a slice.
+    unsafe { vbus_sys::vbus_next_fault(input.as_ptr(), input.len(), start) }
+}
+
+#[inline(always)]
 pub fn encode(header: reference::Header, payload: &[u8], out: &mut [u8]) -> vbus_sys::Written {
     let header = vbus_sys::Header {
         version: header.version,

@@ -5,7 +5,8 @@
 //! is inlined into the loops: the library can't be, and the reference isn't allowed to be.
 //!
 //! A second table has the library's time for recordings in which all unused septet bits are set
-//! against its time for the same recordings without.
+//! against its time for the same recordings without. A third has its time for the faults of hostile
+//! recordings against its time for as many bytes in recordings of an eighth of the size.
 
 mod library;
 mod recordings;
@@ -38,6 +39,11 @@ fn ref_validate(input: &[u8]) -> reference::Validation {
 #[inline(never)]
 fn ref_next(input: &[u8], start: usize, payload: &mut [u8]) -> reference::Found {
     reference::next(input, start, payload)
+}
+
+#[inline(never)]
+fn ref_next_fault(input: &[u8], start: usize) -> reference::Fault {
+    reference::next_fault(input, start)
 }
 
 #[inline(never)]
@@ -109,6 +115,28 @@ macro_rules! next_all {
                 .wrapping_mul(31)
                 .wrapping_add(answer.place ^ answer.payload_length);
             start = answer.place + answer.length;
+        }
+        seen
+    }};
+}
+
+/// Asks for every fault.
+macro_rules! faults_all {
+    ($next_fault:expr, $input:expr) => {{
+        let input: &[u8] = black_box($input);
+        let mut start = 0;
+        let mut seen = 0usize;
+        loop {
+            let answer = $next_fault(input, start);
+            if !answer.found {
+                break;
+            }
+            let bytes = usize::from(answer.byte) << 8 | usize::from(answer.wanted);
+            seen = seen
+                .wrapping_mul(31)
+                .wrapping_add(answer.offset * 8 + answer.verdict as usize)
+                .wrapping_add(answer.place ^ bytes << 16);
+            start = answer.place + 1;
         }
         seen
     }};
@@ -247,6 +275,7 @@ fn recording(kind: &str, size: &str, input: &[u8]) {
         || next_all!(lib::next, input, &mut payload_a),
         || next_all!(ref_next, input, &mut payload_b),
     );
+    faults(kind, size, input);
     compare(
         &format!("normalize, {kind}, {size}"),
         n,
@@ -264,6 +293,27 @@ fn recording(kind: &str, size: &str, input: &[u8]) {
     assert!(
         out_a == out_b,
         "normalize, {kind}, {size}: the bytes differ"
+    );
+}
+
+fn faults(kind: &str, size: &str, input: &[u8]) {
+    compare(
+        &format!("faults, {kind}, {size}"),
+        input.len(),
+        || faults_all!(lib::next_fault, input),
+        || faults_all!(ref_next_fault, input),
+    );
+}
+
+/// The faults of a hostile recording against those of an eighth of it, eight times: the same number of
+/// bytes, so that the ratio is 1 where a byte costs the same in both.
+fn growth(kind: &str, input: &[u8]) {
+    let part = &input[..input.len() / 8];
+    row(
+        &format!("faults, {kind}"),
+        input.len(),
+        || faults_all!(lib::next_fault, input),
+        || (0..8).fold(0, |seen, _| seen ^ faults_all!(lib::next_fault, part)),
     );
 }
 
@@ -410,5 +460,10 @@ fn main() {
     head("Library, unused bits / clean", "clean");
     for ((size, with), (_, without)) in unused.iter().zip(&clean) {
         unused_bits(size, with, without);
+    }
+    println!();
+    head("Library, 512 KiB / 64 KiB eight times", "64 KiB");
+    for (kind, make) in recordings::HOSTILE {
+        growth(kind, &make(1 << 19, &mut random));
     }
 }

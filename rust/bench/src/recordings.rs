@@ -41,6 +41,9 @@ pub const RECEIVED: [(&str, Make); 4] = [
     ("cut packets", cut_packets),
 ];
 
+/// What has faults only.
+pub const HOSTILE: [(&str, Make); 2] = [("all 0xAA", all_sync), ("cut packets", cut_packets)];
+
 /// A stream as a bus carries them: of ten, six packets, two datagrams and two telegrams. Most
 /// packets have up to 32 frames, every tenth any number.
 fn stream(random: &mut Random, out: &mut [u8; 772]) -> usize {

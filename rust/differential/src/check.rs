@@ -330,7 +330,8 @@ impl Checker {
         Ok((found, payload))
     }
 
-    /// The answer's verdict and offset are also those of `vbus_validate`.
+    /// The answer's place is that of a 0xAA behind the start, its verdict and offset those of
+    /// `vbus_validate`.
     pub fn next_fault(&mut self, input: &[u8], start: usize) -> Checked<Fault> {
         let call = || {
             let input = hex(input);
@@ -342,7 +343,10 @@ impl Checker {
             || reference::next_fault(input, start),
         )?;
         if fault.found {
-            let stretch = library::validate(&input[fault.place..]);
+            let place = fault.place;
+            let sync = place >= start && input.get(place) == Some(&0xAA);
+            self.holds(sync, || format!("{} gives a 0xAA's place: {place}", call()))?;
+            let stretch = library::validate(&input[place..]);
             let same = (stretch.verdict, stretch.offset) == (fault.verdict, fault.offset);
             self.holds(same, || {
                 format!("{} gives what vbus_validate gives: {stretch:?}", call())

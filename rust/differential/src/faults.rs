@@ -63,6 +63,11 @@ fn wrapper(fault: &Fault) -> Option<FaultEntry> {
     })
 }
 
+/// No byte is wanted, and what isn't there is 0.
+fn nothing_wanted(fault: &Fault) -> bool {
+    !fault.has_wanted && fault.wanted == 0
+}
+
 impl Checker {
     /// All faults of a recording, one after the other; and the crate's, with their lines.
     pub fn told_faults(&mut self, input: &[u8]) -> Checked<Vec<Fault>> {
@@ -147,8 +152,8 @@ impl Checker {
             what("the bytes before can grow")
         })?;
         let Some(&byte) = stretch.get(fault.offset) else {
-            let ended = fault.verdict == 7 && !fault.has_byte && !fault.has_wanted;
-            return self.holds(ended, || what("the input ends"));
+            let ended = fault.verdict == 7 && !fault.has_byte && nothing_wanted(fault);
+            return self.holds(ended && fault.byte == 0, || what("the input ends"));
         };
         self.holds(fault.has_byte && fault.byte == byte, || what("the byte"))?;
         let verdict = naive::verdict(before, byte);
@@ -182,27 +187,32 @@ impl Checker {
         };
         let right = match fault.verdict {
             4 | 6 => fault.has_wanted && would_do().eq([fault.wanted]),
-            3 => !fault.has_wanted && would_do().eq([0x10, 0x20, 0x30, 0x31]),
-            _ => !fault.has_wanted,
+            3 => nothing_wanted(fault) && would_do().eq([0x10, 0x20, 0x30, 0x31]),
+            _ => nothing_wanted(fault),
         };
         self.holds(right, || what("the byte wanted"))
     }
 
-    /// Any recording from every start, or from some if it is long.
+    /// Any recording from every start, or from some if it is long: each time the first fault from there.
     pub fn faults_from_any_start(&mut self) -> Checked<()> {
         let input = any_recording(&mut self.rng);
+        let faults = self.told_faults(&input)?;
         let n = input.len();
-        if n <= 64 {
-            for start in 0..n + 2 {
-                self.next_fault(&input, start)?;
-            }
-        }
-        for _ in 0..16 {
-            let start = match self.rng.below(8) {
-                0 => self.rng.next() as usize,
-                _ => self.rng.below(n + 2),
-            };
-            self.next_fault(&input, start)?;
+        let mut starts: Vec<usize> = match n {
+            0..=64 => (0..n + 2).collect(),
+            _ => (0..16).map(|_| self.rng.below(n + 2)).collect(),
+        };
+        starts.extend([1 << 32, self.rng.next() as usize, usize::MAX]);
+        for start in starts {
+            let fault = self.next_fault(&input, start)?;
+            let first = faults.iter().find(|fault| fault.place >= start);
+            let expected = first.copied().unwrap_or_default();
+            self.holds(fault == expected, || {
+                let input = hex(&input);
+                format!(
+                    "the first fault of {input} from {start} is {expected:X?}; told was {fault:X?}"
+                )
+            })?;
         }
         Ok(())
     }
