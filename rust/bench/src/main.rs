@@ -421,6 +421,25 @@ fn encode(name: &str, version: u8, command: u16, length: usize, random: &mut Ran
     assert!(out_a == out_b, "encode, {name}: the bytes differ");
 }
 
+/// One stream to write, or one block to sum up.
+fn short_work(random: &mut Random) {
+    encode("packet of 0 frames", 0x10, 0x0100, 0, random);
+    encode("packet of 8 frames", 0x10, 0x0100, 32, random);
+    encode("packet of 127 frames", 0x10, 0x0100, 508, random);
+    encode("datagram", 0x20, 0x0100, 6, random);
+    encode("telegram of 3 frames", 0x30, 0x0065, 21, random);
+    for n in [8, 256, 4096] {
+        let mut block = vec![0u8; n];
+        random.fill(&mut block);
+        compare(
+            &format!("checksum, {n} bytes"),
+            n,
+            || usize::from(lib::checksum(black_box(&block))),
+            || usize::from(ref_checksum(black_box(&block))),
+        );
+    }
+}
+
 fn main() {
     head("Work", "reference");
     let mut random = Random(0x9E37_79B9_7F4A_7C15);
@@ -438,21 +457,7 @@ fn main() {
             recording(kind, size, &make(n, &mut random));
         }
     }
-    encode("packet of 0 frames", 0x10, 0x0100, 0, &mut random);
-    encode("packet of 8 frames", 0x10, 0x0100, 32, &mut random);
-    encode("packet of 127 frames", 0x10, 0x0100, 508, &mut random);
-    encode("datagram", 0x20, 0x0100, 6, &mut random);
-    encode("telegram of 3 frames", 0x30, 0x0065, 21, &mut random);
-    for n in [8, 256, 4096] {
-        let mut block = vec![0u8; n];
-        random.fill(&mut block);
-        compare(
-            &format!("checksum, {n} bytes"),
-            n,
-            || usize::from(lib::checksum(black_box(&block))),
-            || usize::from(ref_checksum(black_box(&block))),
-        );
-    }
+    short_work(&mut random);
     for (kind, make) in recordings::RECEIVED {
         receiver(kind, &make(1 << 16, &mut random));
     }

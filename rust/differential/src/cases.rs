@@ -123,14 +123,32 @@ impl Checker {
         if input.len() <= naive::MOST {
             self.by_every_place(input, &records, &normal)?;
         }
-        let (_, again) = self.normalize(&normal, need)?;
+        self.normalized_again(input, &records, &normal)?;
+        let wrapped = vbus::normalize_to_vec(input);
+        self.holds(wrapped == normal, || {
+            format!("vbus::normalize_to_vec of {}", hex(input))
+        })?;
+        self.holds(before == input, || {
+            format!("the input is left alone: {}", hex(&before))
+        })?;
+        Ok(records)
+    }
+
+    /// The normalized recording has just the recording's records, and stays as it is when normalized.
+    fn normalized_again(
+        &mut self,
+        input: &[u8],
+        records: &[Delivered],
+        normal: &[u8],
+    ) -> Checked<()> {
+        let (_, again) = self.normalize(normal, normal.len())?;
         self.holds(again == normal, || {
             format!("normalizing twice is normalizing once: {}", hex(input))
         })?;
         let mut at = 0;
         let mut payload = [0; MAX_PAYLOAD];
-        for record in &records {
-            let found = library::next(&normal, at, &mut payload);
+        for record in records {
+            let found = library::next(normal, at, &mut payload);
             let same = found.found
                 && found.place == at
                 && found.header == record.header
@@ -143,15 +161,7 @@ impl Checker {
         }
         self.holds(at == normal.len(), || {
             format!("nothing else in the normalized recording: {}", hex(input))
-        })?;
-        let wrapped = vbus::normalize_to_vec(input);
-        self.holds(wrapped == normal, || {
-            format!("vbus::normalize_to_vec of {}", hex(input))
-        })?;
-        self.holds(before == input, || {
-            format!("the input is left alone: {}", hex(&before))
-        })?;
-        Ok(records)
+        })
     }
 
     /// What was found and written, against the records by the rule itself.

@@ -87,6 +87,7 @@ impl Checker {
     pub fn layouts(&mut self) -> Checked<()> {
         self.note(|| "the first layout check".to_string());
         self.sizes()?;
+        self.fault_offsets()?;
         self.found()?;
         self.fault()?;
         self.received()?;
@@ -156,7 +157,10 @@ impl Checker {
             offset_of!(vbus_sys::Received, receiver),
         ];
         let expected = [4, 8, 16, 24, 32, 40];
-        self.expect("offsets of Received on x86-64", offsets, expected)?;
+        self.expect("offsets of Received on x86-64", offsets, expected)
+    }
+
+    fn fault_offsets(&mut self) -> Checked<()> {
         let offsets = [
             offset_of!(vbus_sys::Fault, found),
             offset_of!(vbus_sys::Fault, place),
