@@ -330,7 +330,7 @@ impl Checker {
         Ok((found, payload))
     }
 
-    /// The answer's place is that of a 0xAA behind the start, its verdict and offset those of
+    /// The answer's place is that of a 0xAA at the start or later, its verdict and offset those of
     /// `vbus_validate`.
     pub fn next_fault(&mut self, input: &[u8], start: usize) -> Checked<Fault> {
         let call = || {
