@@ -147,10 +147,11 @@ impl Checker {
     /// longer can; or there is no more, and all of them can.
     fn reason(&mut self, stretch: &[u8], fault: &Fault) -> Checked<()> {
         let what = |what: &str| format!("{what}: {fault:X?} of {}", hex(stretch));
-        let before = &stretch[..fault.offset];
-        self.holds(naive::can_grow(before), || {
-            what("the bytes before can grow")
-        })?;
+        let Some(before) = stretch.get(..fault.offset) else {
+            return self.holds(false, || what("the offset lies within"));
+        };
+        let can_grow = naive::can_grow(before);
+        self.holds(can_grow, || what("the bytes before can grow"))?;
         let Some(&byte) = stretch.get(fault.offset) else {
             let ended = fault.verdict == 7 && !fault.has_byte && nothing_wanted(fault);
             return self.holds(ended && fault.byte == 0, || what("the input ends"));
