@@ -20,7 +20,7 @@ linesOf (f ∷ rest) = lineOf f ++ linesOf rest
 abbrev pub explanationOf : List ℕ → List ℕ
 explanationOf s = linesOf (faults s)
 
--- "Input .. [is] the lister's": a recording that is too long is told as there
+-- "Input, bytes, spaces and newlines are the lister's": so is what is printed for a recording that is too long
 abbrev pub outputOf : List ℕ → List ℕ
 outputOf s = limited s (explanationOf s)
 

@@ -4,7 +4,6 @@ ghost use Prim.Native.Nat.{_+_, _≤_};
 ghost use mathlib.Core.List.{_++_};
 ghost use lib.ListN.{length};
 ghost use Rattle.text.specs.Decimal as text;
-ghost use Rattle.listing.specs.Line.{spaced};
 ghost use Rattle.explanation.specs.Line as lines;
 ghost use Rattle.explanation.specs.Stage.{Appended};
 use diagnosis::Fault;
