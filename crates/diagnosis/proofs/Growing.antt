@@ -15,13 +15,13 @@ use Rattle.checksum.specs.Checksum.{checksumOf}
 use Rattle.checksum.proofs.Laws.{checksumOf-below}
 use Rattle.stream.specs.Layout.{kindOf, kind, headerLength, streamLength}
 use Rattle.stream.specs.declared.Kind.{Kind}
-use Rattle.stream.specs.Validation.{Rule, any, unknown, headerSum, frameSum, headerRule, ruleAt, breach, faultAt, validationOf}
+use Rattle.stream.specs.Validation.{Rule, any, unknown, headerSum, frameSum, headerRule, ruleAt, breach, faultAt}
 use Rattle.stream.specs.declared.Validation.{Validation}
 use Rattle.stream.proofs.Faults.{breach-any, sync-right, fault-low, low-held}
 use Rattle.stream.proofs.Lengths.{as-low}
 use Rattle.stream.proofs.Prefixes.{Same, Fits, fits, same-part, same-rule, same-fault, same-long}
 use Rattle.stream.proofs.Reached.{clean-whole}
-use Rattle.diagnosis.specs.Reason.{IsStream, CanGrow}
+use Rattle.diagnosis.specs.Reason.{CanGrow}
 
 -- no fault below k
 abbrev pub CleanTo : List ℕ → ℕ → Type 0

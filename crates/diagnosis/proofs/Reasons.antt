@@ -5,18 +5,18 @@ use native.Mathlib.Numerals.{add-one}
 use native.Mathlib.Decide.{ℕ-discrete, decLt}
 use mathlib.Core.Path.{_≡_, refl, ap, _∙_, sym, subst, subst⁻¹}
 use mathlib.Core.Logic.{dite}
-use mathlib.Core.Bool.{Bool, true, false, not, true≢false}
+use mathlib.Core.Bool.{Bool, true, false, true≢false}
 use mathlib.Core.List.{List, [], _∷_, _++_, append-assoc}
 use borrow.Author.Tests.{eqb-true, eq-eqb, ne-eqb}
 use lib.ListN.{length, getD, take, drop}
 use lib.Seq.{take-at, take-suc, take-length, length-take-le}
 use Rattle.basics.specs.Choice.{choose}
-use Rattle.basics.proofs.Choice.{choose-by, equal-of-zero}
+use Rattle.basics.proofs.Choice.{equal-of-zero}
 use Rattle.checksum.specs.Checksum.{checksumOf}
 use Rattle.stream.specs.Layout.{kind, frameWidth, streamLength}
 use Rattle.stream.specs.declared.Kind.{Kind}
 use Rattle.stream.specs.Validation.{Rule, any, unknown, headerSum, frameSum, ruleAt, breach, faultAt, validationOf}
-use Rattle.stream.proofs.Faults.{sync-right, sync-wrong, fault-low, fault-high, low-held}
+use Rattle.stream.proofs.Faults.{sync-right, sync-wrong, fault-low, fault-high, low-held, fault-most}
 use Rattle.stream.proofs.Offsets.{NotWhole, cut, broken, not-whole}
 use Rattle.stream.proofs.Prefixes.{Same, Fits, fits, same-rule, same-long, fault-stays}
 use Rattle.stream.proofs.Reached.{whole-clean}
@@ -60,19 +60,6 @@ breach-of s k v e big =
     (λ low. sym (fault-low s k (omega arith) low) ∙ e)
     (λ high. absurd (omega (arith, e, fault-high s k (omega arith) (omega arith)))))
 
-rule-small : (rule : Rule) → verdictOf rule < 7
-rule-small any = omega arith
-rule-small unknown = omega arith
-rule-small (headerSum n) = omega arith
-rule-small (frameSum width) = omega arith
-
--- V7 is no byte's
-fault-small : (s : List ℕ) (k v : ℕ) → faultAt s k ≡ v → v < 7
-fault-small s k v e =
-    dite (decLt 2 v)
-    (λ big. omega (arith, rule-small (ruleAt (kind s) k), broken-by (ruleAt (kind s) k) s v k (breach-of s k v e big) (omega arith)))
-    (λ low. omega arith)
-
 -- ── the reason
 
 has-byte-not : (v : ℕ) → v ≡ 7 → hasByte v ≡ true → ⊥
@@ -102,7 +89,7 @@ module _ (s : List ℕ) (q : ℕ) where
         stops = λ has g.
             fault-stays {m = k + 1} (record { begin = more ∙ sym (take-at (take k t ++ (getD t k 0 ∷ [])) (g .0) (k + 1) (sym (ap length more) ∙ length-take-le (k + 1) t (omega arith))) })
             k (omega arith) (omega (arith, e)) below (g .1 .whole);
-        all = λ lacks. absurd (omega (arith, fault-small t k v e, no-byte-seven v lacks));
+        all = λ lacks. absurd (omega (arith, e, fault-most t k, no-byte-seven v lacks));
       }
 
 -- "The reason must be true", of each answer that tells a fault

@@ -12,8 +12,8 @@ use lib.Seq.{take-append-seam}
 use Rattle.basics.specs.Choice.{choose}
 use Rattle.basics.proofs.Choice.{choose-by}
 use Rattle.stream.specs.Layout.{kind, streamLength}
-use Rattle.stream.specs.Validation.{Rule, any, unknown, headerSum, frameSum, ruleAt, breach, faultAt}
-use Rattle.stream.proofs.Faults.{low-held}
+use Rattle.stream.specs.Validation.{faultAt}
+use Rattle.stream.proofs.Faults.{low-held, fault-most}
 use Rattle.stream.proofs.Lengths.{as-low}
 use Rattle.stream.proofs.Offsets.{NotWhole, cut, broken, not-whole}
 use Rattle.text.proofs.Decimal.{decimal-most}
@@ -25,27 +25,13 @@ use Rattle.explanation.specs.Explanation.{linesOf, explanationOf, output
 
 -- ── the numbers of a fault
 
-breach-most : (rule : Rule) (s : List ℕ) (k : ℕ) → breach rule s k ≤ 6
-unfolding breach
-breach-most any s k = omega arith
-breach-most unknown s k = omega arith
-breach-most (headerSum n) s k = choose-by (λ (v : ℕ). v ≤ 6) _ (λ t. omega arith) (λ t. omega arith)
-breach-most (frameSum width) s k = choose-by (λ (v : ℕ). v ≤ 6) _ (λ t. omega arith) (λ t. omega arith)
-
-fault-most : (s : List ℕ) (k : ℕ) → faultAt s k ≤ 6
-unfolding faultAt
-fault-most s k =
-    choose-by (λ (v : ℕ). v ≤ 6) _
-    (λ t. choose-by (λ (v : ℕ). v ≤ 6) _ (λ t. omega arith) (λ t. omega arith))
-    (λ t. choose-by (λ (v : ℕ). v ≤ 6) _ (λ t. omega arith) (λ t. breach-most (ruleAt (kind s) k) s k))
-
 -- byte 8, which alone can announce more, is low where the offset lies behind it
 offset-below : (s : List ℕ) (k : ℕ) → ((i : ℕ) → i < k → faultAt s i ≡ 0) → k < streamLength s → k < 772
 unfolding streamLength
 offset-below s k clean below =
     dite (decLt 8 k) (λ behind. omega (arith, as-low (kind s) s (low-held s 8 (omega arith) (clean 8 behind)))) (λ early. omega arith)
 
-pub numbers-small : (s : List ℕ) (v k : ℕ) → NotWhole s v k → (v < 8) × (k < 772)
+numbers-small : (s : List ℕ) (v k : ℕ) → NotWhole s v k → (v < 8) × (k < 772)
 numbers-small s v k (cut seven ends clean below) = (omega arith, offset-below s k clean below)
 numbers-small s v k (broken e pos clean below inside) = (omega (arith, fault-most s k), offset-below s k clean below)
 
@@ -86,7 +72,7 @@ unfolding numbersText
 numbers-most place verdict offset p v k =
     simp length-append (omega (arith, decimal-most 4 place (omega arith), decimal-most 0 verdict (omega arith), decimal-most 2 offset (omega arith)))
 
-pub line-most : (q : ℕ) (s : List ℕ) → q < 65536 → isFault s ≡ true → length (lineOf (faultOf q s)) ≤ 40
+line-most : (q : ℕ) (s : List ℕ) → q < 65536 → isFault s ≡ true → length (lineOf (faultOf q s)) ≤ 40
 unfolding lineOf
 line-most q s small is =
     let f = faultOf q s in

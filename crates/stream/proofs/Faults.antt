@@ -10,7 +10,7 @@ use borrow.Author.Tests.{eq-eqb, ne-eqb, lt-ltb, le-ltb, le-leb, lt-leb}
 use lib.ListN.{length, getD, take, drop}
 use lib.Seq.{getD-take, getD-drop, take-take}
 use Rattle.basics.specs.Choice.{choose}
-use Rattle.basics.proofs.Choice.{equal-of-zero}
+use Rattle.basics.proofs.Choice.{choose-by, equal-of-zero}
 use Rattle.checksum.specs.Checksum.{checksumOf}
 use Rattle.stream.specs.Layout.{kind, headerLength, frameWidth}
 use Rattle.stream.specs.declared.Kind.{Kind}
@@ -124,6 +124,26 @@ sync-wrong s e = simp (ne-eqb _ _ e)
 
 pub sync-held : (s : List ℕ) → faultAt s 0 ≡ 0 → getD s 0 0 ≡ 0xAA
 sync-held s e = dite (ℕ-discrete (getD s 0 0) 0xAA) (λ q. q) (λ bad. absurd (omega (arith, sync-wrong s bad)))
+
+-- ── the numbers that a fault can have
+
+breach-by : (P : ℕ → Type 0) → P 0 → P 3 → P 4 → P 6 → (rule : Rule) (s : List ℕ) (k : ℕ) → P (breach rule s k)
+unfolding breach
+breach-by P zero three four six any s k = zero
+breach-by P zero three four six unknown s k = three
+breach-by P zero three four six (headerSum n) s k = choose-by P _ (λ t. zero) (λ t. four)
+breach-by P zero three four six (frameSum width) s k = choose-by P _ (λ t. zero) (λ t. six)
+
+-- what holds of 0 to 4 and of 6 holds of what a byte brings
+pub fault-by : (P : ℕ → Type 0) → P 0 → P 1 → P 2 → P 3 → P 4 → P 6 → (s : List ℕ) (k : ℕ) → P (faultAt s k)
+unfolding faultAt
+fault-by P zero one two three four six s k =
+    choose-by P _ (λ t. choose-by P _ (λ t. zero) (λ t. one))
+    (λ t. choose-by P _ (λ t. two) (λ t. breach-by P zero three four six (ruleAt (kind s) k) s k))
+
+-- V7 is no byte's
+pub fault-most : (s : List ℕ) (k : ℕ) → faultAt s k < 7
+fault-most = fault-by (λ (v : ℕ). v < 7) (omega arith) (omega arith) (omega arith) (omega arith) (omega arith) (omega arith)
 
 -- ── a frame by itself
 

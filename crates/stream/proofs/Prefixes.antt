@@ -11,7 +11,6 @@ use lib.ListN.{length, getD, take, drop}
 use lib.Seq.{getD-take, take-take, take-nil}
 use Rattle.basics.specs.Choice.{choose}
 use Rattle.basics.proofs.Choice.{choose-by}
-use Rattle.checksum.specs.Checksum.{checksumOf}
 use Rattle.stream.specs.Layout.{kindOf, kind, headerLength, frameWidth, telegramFrames, frameCount, streamLength}
 use Rattle.stream.specs.declared.Kind.{Kind}
 use Rattle.stream.specs.declared.Kind.the-variants.{Packet, Datagram, Telegram, Unknown}

@@ -11,13 +11,13 @@ use borrow.Author.Tests.{eq-eqb, ne-eqb}
 use lib.ListN.{length, drop}
 use lib.Seq.{drop-cons, drop-length}
 use Rattle.basics.specs.Choice.{choose}
-use Rattle.basics.proofs.Choice.{choose-by}
-use Rattle.stream.specs.Layout.{kind, streamLength}
+use Rattle.stream.specs.Layout.{streamLength}
 use Rattle.stream.specs.Unused.{unusedSeptets}
 use Rattle.stream.specs.declared.Stop.{Stop}
 use Rattle.stream.specs.declared.Validation.{Validation}
-use Rattle.stream.specs.Validation.{Rule, any, unknown, headerSum, frameSum, ruleAt, breach, faultAt, verdictAt, validationFrom, validationOf, stopOf}
+use Rattle.stream.specs.Validation.{faultAt, verdictAt, validationFrom, validationOf, stopOf}
 use Rattle.stream.specs.Stage.{Clean, Reached, whole, ended, found, ReachedTo, Told}
+use Rattle.stream.proofs.Faults.{fault-by}
 
 -- ── what is reached is the answer
 
@@ -182,19 +182,8 @@ early-faulty (found e bad clean below inside) short w = omega arith
 
 -- ── V5
 
-breach-five : (r : Rule) (s : List ℕ) (k : ℕ) → breach r s k ≡ 5 → ⊥
-unfolding breach
-breach-five any s k e = omega arith
-breach-five unknown s k e = omega arith
-breach-five (headerSum n) s k e = choose-by (λ (v : ℕ). v ≡ 5 → ⊥) _ (λ t e. omega arith) (λ t e. omega arith) e
-breach-five (frameSum width) s k e = choose-by (λ (v : ℕ). v ≡ 5 → ⊥) _ (λ t e. omega arith) (λ t e. omega arith) e
-
 fault-five : (s : List ℕ) (k : ℕ) → faultAt s k ≡ 5 → ⊥
-unfolding faultAt
-fault-five s k =
-    choose-by (λ (v : ℕ). v ≡ 5 → ⊥) _
-    (λ t. choose-by (λ (v : ℕ). v ≡ 5 → ⊥) _ (λ t e. omega arith) (λ t e. omega arith))
-    (λ t. choose-by (λ (v : ℕ). v ≡ 5 → ⊥) _ (λ t e. omega arith) (λ t. breach-five (ruleAt (kind s) k) s k))
+fault-five = fault-by (λ (v : ℕ). v ≡ 5 → ⊥) (λ e. omega arith) (λ e. omega arith) (λ e. omega arith) (λ e. omega arith) (λ e. omega arith) (λ e. omega arith)
 
 never-reached : (s : List ℕ) (total n v k : ℕ) → Reached (faultAt s) total n v k → v ≡ 5 → ⊥
 never-reached s total n v k (whole z o clean inside) e = omega arith

@@ -55,7 +55,7 @@ module _ (n : ℕ) where
   decimal-some = simp length-append (omega arith)
 
 -- what holds of a single digit, and of a number if it does without its last digit, holds of every number
-pub decimal-ind : (P : ℕ → Type 0) → ((n : ℕ) → n < 10 → P n) → ((n : ℕ) → 10 ≤ n → P (n / 10) → P n) → (n : ℕ) → P n
+decimal-ind : (P : ℕ → Type 0) → ((n : ℕ) → n < 10 → P n) → ((n : ℕ) → 10 ≤ n → P (n / 10) → P n) → (n : ℕ) → P n
 decimal-ind P one more n = within (suc n) n (omega arith)
   where
     within : (most n : ℕ) → n < most → P n
