@@ -18,7 +18,7 @@ use Rattle.recording.proofs.Nexts.{next-exactly}
 use Rattle.diagnosis.specs.declared.Fault.{Fault}
 use Rattle.diagnosis.specs.Fault.{isFault, faultOf, faultsFrom, faultsAfter, nextFault}
 use Rattle.diagnosis.specs.Reason.{Asked, ended, again, syncsFrom, isIn, without, faultPlaces, deliveryPlaces}
-use Rattle.diagnosis.proofs.Faults.{fault-is, fault-sync, fault-not-whole, no-sync-no-fault, whole-no-fault, first-of, at-fault, after-found, found-at, none-after}
+use Rattle.diagnosis.proofs.Faults.{fault-is, fault-sync, fault-not-whole, no-sync-no-fault, whole-no-fault, first-of, next-here, found-at, none-after}
 
 -- ── asked one after the other
 
@@ -54,8 +54,7 @@ module _ (s : List ℕ) (q : ℕ) where
   here-found : (getD s q 0 ≡ 0xAA) × (Whole (drop q s) → ⊥) → (nextFault s q .found ≡ true) × (nextFault s q .place ≡ q)
   here-found (sync, bad) =
       let inside : q < length s = dite (decLt q (length s)) (λ h. h) (λ h. absurd (omega (arith, sync, List·getD-eq-default s 0 {n = q} (omega arith)))) in
-      let here = at-fault s q sync bad in
-      let first = after-found s q inside (ap (λ (f : Fault). f .found) here) ∙ here in
+      let first = next-here s q inside sync bad in
       (ap (λ (f : Fault). f .found) first, ap (λ (f : Fault). f .place) first)
 
 -- a fault is told of a place exactly if it holds a 0xAA and, given room for any payload, no record is delivered there

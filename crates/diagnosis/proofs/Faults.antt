@@ -3,7 +3,7 @@ use Prim.Native.Nat.{ℕ, zero, suc, _+_, _-_, _≤_, _<_}
 use native.Mathlib.Omega.{arith}
 use native.Mathlib.Nat.{add-zero}
 use native.Mathlib.Numerals.{add-one}
-use native.Mathlib.Decide.{decLt}
+use native.Mathlib.Decide.{decLt, ℕ-discrete}
 use mathlib.Core.Path.{_≡_, refl, ap, _∙_, sym}
 use mathlib.Core.Bool.{Bool, true, false, not, _&&_, true≢false}
 use mathlib.Core.Logic.{dite}
@@ -19,10 +19,12 @@ use Rattle.stream.specs.declared.Kind.{Kind}
 use Rattle.stream.specs.declared.Kind.the-variants.{Packet, Datagram, Telegram, Unknown}
 use Rattle.stream.specs.declared.Stop.{Stop}
 use Rattle.stream.specs.Validation.{validationOf, stopOf, isWhole}
-use Rattle.recording.proofs.Deliveries.{Whole}
+use Rattle.stream.proofs.Offsets.{low-before}
+use Rattle.stream.proofs.Syncs.{NextSync}
+use Rattle.recording.proofs.Deliveries.{Whole, whole-sync}
 use Rattle.diagnosis.specs.declared.Fault.{Fault}
 use Rattle.diagnosis.specs.Fault.{isFault, frameSumBefore, hasByte, hasWanted, wantedAt, faultBy, faultOf, faultsFrom, faultsAfter, none, firstOf, nextFault}
-use Rattle.diagnosis.specs.Stage.{SaidOf, faultHere}
+use Rattle.diagnosis.specs.Stage.{SaidOf}
 
 -- ── a stretch
 
@@ -46,23 +48,6 @@ module _ (s : List ℕ) (e : isFault s ≡ true) where
 
   pub fault-not-whole : Whole s → ⊥
   fault-not-whole w = true≢false (sym (rw (eq-eqb (validationOf s .verdict) 0 w) at (both (eqb (getD s 0 0) 0xAA) (not (isWhole s)) e .1)))
-
-module _ (q : ℕ) (s : List ℕ) where
-  pub here-fault : isFault s ≡ true → faultHere q s ≡ faultOf q s
-  unfolding faultHere choose
-  here-fault e = rw e
-
-  pub here-none : isFault s ≡ false → faultHere q s ≡ none
-  unfolding faultHere choose
-  here-none e = rw e
-
-  pub here-found : faultHere q s .found ≡ isFault s
-  unfolding faultHere choose
-  here-found = choose-found (isFault s)
-    where
-      choose-found : (b : Bool) → _≡_ {A = Bool} (choose b (faultOf q s) none .found) b
-      choose-found true = refl
-      choose-found false = refl
 
 -- ── the byte wanted, by the verdict
 
@@ -114,19 +99,8 @@ described q s v k byte has wanted said b h w =
 
 -- ── one place
 
-module _ (s : List ℕ) (at : ℕ) where
-  pub first-of : getD (drop at s) 0 0 ≡ getD s at 0
-  first-of = getD-drop at s 0 0 ∙ rw (add-zero at) refl
-
-  pub at-no-sync : (getD s at 0 ≡ 0xAA → ⊥) → faultHere at (drop at s) ≡ none
-  at-no-sync other = here-none at (drop at s) (no-sync-no-fault (drop at s) (λ e. other (sym first-of ∙ e)))
-
-  module _ (sync : getD s at 0 ≡ 0xAA) where
-    pub at-whole : Whole (drop at s) → faultHere at (drop at s) ≡ none
-    at-whole w = here-none at (drop at s) (whole-no-fault (drop at s) (first-of ∙ sync) w)
-
-    pub at-fault : (Whole (drop at s) → ⊥) → faultHere at (drop at s) ≡ faultOf at (drop at s)
-    at-fault bad = here-fault at (drop at s) (fault-is (drop at s) (first-of ∙ sync) bad)
+pub first-of : (s : List ℕ) (at : ℕ) → getD (drop at s) 0 0 ≡ getD s at 0
+first-of s at = getD-drop at s 0 0 ∙ rw (add-zero at) refl
 
 -- ── from a starting place on
 
@@ -147,20 +121,47 @@ module _ (s : List ℕ) (at : ℕ) where
       let begins = drop-cons s at 0 inside in
       rw (begins, add-one) (rw (rw begins at e))
 
-  -- the fault at a place comes first, or what follows it
-  pub after-found : at < length s → faultHere at (drop at s) .found ≡ true → nextFault s at ≡ faultHere at (drop at s)
-  unfolding nextFault
-  after-found inside e =
-      let is = sym (here-found at (drop at s)) ∙ e in
-      ap firstOf (after-fault inside is) ∙ sym (here-fault at (drop at s) is)
+-- past places that have none
+after-skip : (s : List ℕ) (start n : ℕ) → ((k : ℕ) → start ≤ k → k < start + n → k < length s → isFault (drop k s) ≡ false) → faultsAfter s start ≡ faultsAfter s (start + n)
+after-skip s start zero free = rw (add-zero start)
+after-skip s start (suc n) free =
+    let last : start + n + 1 ≡ start + suc n = omega arith in
+    after-skip s start n (λ k above below. free k above (omega arith))
+    ∙ dite (decLt (start + n) (length s))
+    (λ inside. after-on s (start + n) inside (free (start + n) (omega arith) (omega arith) inside) ∙ ap (faultsAfter s) last)
+    (λ outside. after-end s (start + n) (omega arith) ∙ sym (after-end s (start + suc n) (omega arith)))
 
-  pub after-passed : at < length s → faultHere at (drop at s) .found ≡ false → faultsAfter s at ≡ faultsAfter s (at + 1)
-  after-passed inside e = after-on inside (sym (here-found at (drop at s)) ∙ e)
+-- none before the next sync byte
+pub after-sync : (s : List ℕ) (start r : ℕ) → NextSync s start r → faultsAfter s start ≡ faultsAfter s r
+after-sync s start r sync =
+    let back : start + (r - start) ≡ r = omega (arith, sync .after) in
+    after-skip s start (r - start) (λ k above below inside. no-sync-no-fault (drop k s) (λ e. sync .passed k (omega arith) above inside (sym (first-of s k) ∙ e)))
+    ∙ ap (faultsAfter s) back
+
+-- nor within a whole stream
+pub after-whole : (s : List ℕ) (at : ℕ) → Whole (drop at s) → faultsAfter s at ≡ faultsAfter s (at + validationOf (drop at s) .offset)
+after-whole s at w = after-skip s at (validationOf (drop at s) .offset) free
+  where
+    free : (k : ℕ) → at ≤ k → k < at + validationOf (drop at s) .offset → k < length s → isFault (drop k s) ≡ false
+    free k above below inside =
+        dite (ℕ-discrete k at)
+        (λ e. rw e (whole-no-fault (drop at s) (whole-sync (drop at s) w) w))
+        (λ ne. no-sync-no-fault (drop k s)
+        (λ e.
+        let low = low-before (drop at s) (k - at) (omega arith) (omega arith) in
+        let same : getD (drop at s) (k - at) 0 ≡ getD (drop k s) 0 0 =
+        getD-drop at s (k - at) 0 ∙ ap (λ (n : ℕ). getD s n 0) (omega arith) ∙ sym (getD-drop k s 0 0) in
+        omega (arith, low, same, e)))
 
 -- the same faults have the same first
 pub next-by : (s : List ℕ) (at start : ℕ) → faultsAfter s at ≡ faultsAfter s start → nextFault s at ≡ nextFault s start
 unfolding nextFault
 next-by s at start e = ap firstOf e
+
+-- a sync byte that gave no record is the first fault from there on
+pub next-here : (s : List ℕ) (at : ℕ) → at < length s → getD s at 0 ≡ 0xAA → (Whole (drop at s) → ⊥) → nextFault s at ≡ faultOf at (drop at s)
+unfolding nextFault
+next-here s at inside sync bad = ap firstOf (after-fault s at inside (fault-is (drop at s) (first-of s at ∙ sync) bad))
 
 pub next-end : (s : List ℕ) (at : ℕ) → length s ≤ at → nextFault s at ≡ none
 unfolding nextFault

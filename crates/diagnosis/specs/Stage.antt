@@ -3,11 +3,8 @@ use Prim.Native.Nat.{ℕ, _+_, _≤_, _<_}
 use mathlib.Core.Path.{_≡_}
 use mathlib.Core.List.{List}
 use lib.ListN.{length}
-use Rattle.basics.specs.Choice.{choose}
 use Rattle.stream.specs.Layout.{kind, frameWidth}
 use Rattle.stream.specs.Validation.{validationOf}
-use Rattle.diagnosis.specs.Fault.{isFault, faultOf, none}
-use Rattle.diagnosis.specs.declared.Fault.{Fault}
 
 -- verdict and offset are those of s
 pub record SaidOf (s : List ℕ) (verdict offset : ℕ) : Type 0 where
@@ -18,7 +15,3 @@ pub record SaidOf (s : List ℕ) (verdict offset : ℕ) : Type 0 where
 pub record SumsAt (s : List ℕ) (verdict offset : ℕ) : Type 0 where
   pub header : verdict ≡ 4 → (1 ≤ offset) × (offset ≤ length s)
   pub frame : verdict ≡ 6 → (5 < length s) × (frameWidth (kind s) + 1 ≤ offset) × (offset ≤ length s)
-
--- what is told of a place, by the stretch from there on
-unfoldable pub faultHere : ℕ → List ℕ → Fault
-faultHere q s = choose (isFault s) (faultOf q s) none

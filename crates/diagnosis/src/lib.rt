@@ -1,10 +1,9 @@
 // Why a sync byte gave no record (request No. 4).
 ghost use mathlib.Core.Path.{_≡_};
-ghost use Prim.Native.Nat.{_<_};
-ghost use lib.ListN.{length, getD, drop};
+ghost use lib.ListN.{getD};
 ghost use Rattle.stream.specs.Layout.{frameWidth};
 ghost use Rattle.diagnosis.specs.Fault.{hasWanted, wantedAt, faultOf, nextFault};
-ghost use Rattle.diagnosis.specs.Stage.{SaidOf, SumsAt, faultHere};
+ghost use Rattle.diagnosis.specs.Stage.{SaidOf, SumsAt};
 use stream::Kind;
 
 // A sync byte that gave no record, and why: its place, the verdict on the stretch from there on with its offset, the byte that stands
@@ -101,36 +100,24 @@ fn describe(stretch: &[u8], place: usize, verdict: u8, offset: usize) -> Fault
     }
 }
 
-// The fault at a place, if it holds a sync byte that gave no record.
-fn fault_at(recording: &[u8], at: usize) -> Fault
-    requires { ⌜ at < length (now recording) ⌝ }
-    ensures { λ r. ⌜ r ≡ faultHere at (drop at (now (recording .entry))) ⌝ }
-{
-    if recording[at] != 0xAA {
-        return none();
-    }
-    let stop = stream::first_fault(&recording[at..]);
-    let verdict = stop.verdict;
-    if verdict == 0 {
-        return none();
-    }
-    describe(&recording[at..], at, verdict, stop.offset)
-}
-
 // The first sync byte at or after `start` that gave no record, and why. To go on, start one place behind it: a stretch is looked
 // at up to the next sync byte at most, so asking for one after the other takes time that grows with the recording alone.
 pub fn next_fault(recording: &[u8], start: usize) -> Fault
     ensures { λ r. ⌜ r ≡ nextFault (now (recording .entry)) start ⌝ }
 {
     let mut at = start;
-    while at < recording.len() {
-        let fault = fault_at(recording, at);
-        if fault.found {
-            return fault;
+    loop {
+        at = stream::next_sync(recording, at);
+        if at >= recording.len() {
+            return none();
         }
-        at += 1;
+        let stop = stream::first_fault(&recording[at..]);
+        let verdict = stop.verdict;
+        if verdict != 0 {
+            return describe(&recording[at..], at, verdict, stop.offset);
+        }
+        at += stop.offset; // past a whole stream: none of its bytes but the first is a sync byte
     }
-    none()
 }
 
 // A cursor over a lent recording: document 02's reading head.

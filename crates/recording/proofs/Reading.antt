@@ -10,6 +10,7 @@ use Rattle.stream.specs.Layout.{kind, headerLength, frameWidth, frameCount, len
 use Rattle.stream.specs.declared.Kind.{Kind}
 use Rattle.stream.specs.Validation.{validationOf}
 use Rattle.stream.proofs.Offsets.{low-before}
+use Rattle.stream.proofs.Syncs.{NextSync}
 use native.Mathlib.Decide.{ℕ-discrete}
 use mathlib.Core.Logic.{dite}
 use lib.Seq.{getD-drop}
@@ -17,7 +18,7 @@ use Rattle.septet.specs.Septet.{withTopBits}
 use Rattle.record.specs.Record.{unframed, recordOf, payloadIn}
 use Rattle.record.proofs.WholeAgain.{whole-parts, few-as, payload-sized}
 use Rattle.recording.specs.Recording.{deliveriesAfter}
-use Rattle.recording.specs.Stage.{NextSync, PayloadHeld}
+use Rattle.recording.specs.Stage.{PayloadHeld}
 use Rattle.recording.proofs.Deliveries.{Whole, whole-sync, after-skip}
 
 -- one frame fewer

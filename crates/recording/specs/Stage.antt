@@ -16,12 +16,6 @@ use Rattle.recording.specs.declared.search.Span.{Span}
 use Rattle.recording.specs.declared.search.Search.{Search}
 use Rattle.recording.specs.declared.search.Search.the-variants.{At, Nothing}
 
--- r holds the first sync byte from `start` on, or there is none
-pub record NextSync (s : List ℕ) (start r : ℕ) : Type 0 where
-  pub after : start ≤ r
-  pub here : r < length s → getD s r 0 ≡ 0xAA
-  pub passed : (k : ℕ) → k < r → start ≤ k → k < length s → getD s k 0 ≡ 0xAA → ⊥
-
 -- where the first delivery of s stands, and the unused septets there
 abbrev pub searched : List ℕ → List Delivery → Search
 searched s [] = Nothing

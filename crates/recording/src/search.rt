@@ -1,7 +1,7 @@
 // The search for the next whole stream.
 ghost use mathlib.Core.Path.{_≡_};
 ghost use Rattle.recording.specs.Recording.{deliveriesAfter};
-ghost use Rattle.recording.specs.Stage.{NextSync, searched};
+ghost use Rattle.recording.specs.Stage.{searched};
 
 // Where a whole stream stands, how long it is, and how many of its blocks have unused septet bits set.
 pub struct Span {
@@ -15,27 +15,13 @@ pub enum Search {
     Nothing,
 }
 
-// The first place from `start` on that holds a sync byte, or one that is not below the input length.
-fn next_sync(input: &[u8], start: usize) -> usize
-    ensures { λ r. ⌜ NextSync (now (input .entry)) start r ⌝ }
-{
-    let mut place = start;
-    while place < input.len() {
-        if input[place] == 0xAA {
-            return place;
-        }
-        place += 1;
-    }
-    place
-}
-
 // The first place from `start` on at which the stretch to the input's end begins with a whole stream.
 pub fn first_whole(input: &[u8], start: usize) -> Search
     ensures { λ r. ⌜ r ≡ searched (now (input .entry)) (deliveriesAfter (now (input .entry)) start) ⌝ }
 {
     let mut at = start;
     loop {
-        at = next_sync(input, at);
+        at = stream::next_sync(input, at);
         if at >= input.len() {
             break Search::Nothing;
         }

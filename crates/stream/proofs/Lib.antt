@@ -7,4 +7,5 @@ pub mod Lengths
 pub mod Whole
 pub mod Offsets
 pub mod Prefixes
+pub mod Syncs
 pub mod Samples

@@ -1,3 +1,4 @@
+pub mod Sync
 pub mod Layout
 pub mod Unused
 pub mod Validation

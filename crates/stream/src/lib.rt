@@ -1,6 +1,7 @@
 // One stream on the wire, validated from its first byte (document 01: judging).
 ghost use mathlib.Core.Path.{_≡_};
 ghost use Rattle.stream.specs.Layout.{kindOf, telegramFrames, payloadLength};
+ghost use Rattle.stream.specs.Sync.{nextSync};
 ghost use Rattle.stream.specs.Validation.{number, stopOf, validationOf};
 
 mod frame;
@@ -98,6 +99,20 @@ pub fn kind_of(version: u8) -> Kind
         0x31 => Kind::Telegram,
         _ => Kind::Unknown,
     }
+}
+
+// The first place at or after `start` that holds a sync byte, or one that is not below the input length.
+pub fn next_sync(input: &[u8], start: usize) -> usize
+    ensures { λ r. ⌜ r ≡ nextSync (now (input .entry)) start ⌝ }
+{
+    let mut place = start;
+    while place < input.len() {
+        if input[place] == 0xAA {
+            return place;
+        }
+        place += 1;
+    }
+    place
 }
 
 // The frame count that bits 5-6 of a telegram's command say.

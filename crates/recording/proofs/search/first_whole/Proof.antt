@@ -11,6 +11,7 @@ use Rattle.basics.proofs.Over.{part}
 use Rattle.stream.specs.Validation.{stopOf}
 use Rattle.stream.specs.declared.Stop.{Stop}
 use Rattle.stream.proofs.Offsets.{offset-within, offset-behind}
+use Rattle.stream.proofs.Syncs.{next-sync}
 use Rattle.recording.specs.Recording.{deliveriesAfter}
 use Rattle.recording.specs.Stage.{searched}
 use Rattle.recording.specs.declared.search.Search.the-variants.{At}
@@ -55,21 +56,21 @@ add-at : tie.Need-add-at Inv-loop μ-loop
 add-at c =
     let sync = c .before .before .before .before .before in
     let s = sync .before .before .before .args .input .now in
-    omega (arith, fault-moves s (sync .next-sync .result) _ (omega arith) (sync .next-sync .ensures .here (omega arith)) (rw part at (c .before .before .first-fault .ensures)))
+    omega (arith, fault-moves s (sync .next-sync .result) _ (omega arith) (next-sync s _ _ (sync .next-sync .ensures) .here (omega arith)) (rw part at (c .before .before .first-fault .ensures)))
 
 loop-less : tie.Need-loop-less Inv-loop μ-loop
 loop-less c =
     let sync = c .before .before .before .before .before in
     let s = sync .before .before .before .args .input .now in
-    let moved = fault-moves s (sync .next-sync .result) _ (omega arith) (sync .next-sync .ensures .here (omega arith)) (rw part at (c .before .before .first-fault .ensures)) in
-    omega (arith, moved, sync .next-sync .ensures .after)
+    let moved = fault-moves s (sync .next-sync .result) _ (omega arith) (next-sync s _ _ (sync .next-sync .ensures) .here (omega arith)) (rw part at (c .before .before .first-fault .ensures)) in
+    omega (arith, moved, next-sync s _ _ (sync .next-sync .ensures) .after)
 
 loop-again : tie.Need-loop-again Inv-loop μ-loop
 loop-again c =
     let sync = c .before .before .before .before .before in
     let s = sync .before .before .before .args .input .now in
     let r = sync .next-sync .result in
-    let at = after-sync s (sync .before .loop .at) r (sync .next-sync .ensures) in
+    let at = after-sync s (sync .before .loop .at) r (next-sync s _ r (sync .next-sync .ensures)) in
     let answer = rw part at (c .before .before .first-fault .ensures) in
     let on = after-fault s r (λ w. c .if2 .left (ap (λ (a : Stop). a .verdict) answer ∙ w)) in
     ap (λ (a : Stop). deliveriesAfter s (r + a .offset)) answer ∙ sym (at ∙ on) ∙ sync .before .loop .inv
@@ -77,7 +78,7 @@ loop-again c =
 returns : tie.Need-returns Inv-loop μ-loop
 returns c =
     let s = c .before .before .before .before .args .input .now in
-    let at = after-sync s (c .before .before .loop .at) (c .before .next-sync .result) (c .before .next-sync .ensures) in
+    let at = after-sync s (c .before .before .loop .at) (c .before .next-sync .result) (next-sync s _ _ (c .before .next-sync .ensures)) in
     ap (searched s) (sym (after-end s (c .before .next-sync .result) (omega arith)) ∙ sym at ∙ c .before .before .loop .inv)
 
 returns-2 : tie.Need-returns-2 Inv-loop μ-loop
@@ -85,7 +86,7 @@ returns-2 c =
     let sync = c .before .before .before .before .before in
     let s = sync .before .before .before .args .input .now in
     let r = sync .next-sync .result in
-    let at = after-sync s (sync .before .loop .at) r (sync .next-sync .ensures) in
+    let at = after-sync s (sync .before .loop .at) r (next-sync s _ r (sync .next-sync .ensures)) in
     let answer = rw part at (c .before .before .first-fault .ensures) in
     let here = after-here s r (sym (ap (λ (a : Stop). a .verdict) answer) ∙ c .if2 .taken) in
     ap (λ (a : Stop). At (record { place = r; length = a .offset; «unused_septets» = a .«unused_septets» })) answer ∙ ap (searched s) (sym here ∙ sym at ∙ sync .before .loop .inv)
