@@ -112,11 +112,11 @@ pub fn next_fault(recording: &[u8], start: usize) -> Fault
             return none();
         }
         let stop = stream::first_fault(&recording[at..]);
-        let verdict = stop.verdict;
-        if verdict != 0 {
-            return describe(&recording[at..], at, verdict, stop.offset);
+        let offset = stop.offset;
+        if stop.verdict != 0 {
+            return describe(&recording[at..], at, stop.verdict, offset);
         }
-        at += stop.offset; // past a whole stream: none of its bytes but the first is a sync byte
+        at += offset; // past a whole stream: none of its bytes but the first is a sync byte
     }
 }
 

@@ -67,15 +67,15 @@ part-describe-end : tie.Need-part-describe-end Inv-loop μ-loop
 part-describe-end c = search needs
 
 describe-requires : tie.Need-describe-requires Inv-loop μ-loop
-describe-requires c κs = said-by _ _ (c .before .before .first-fault .ensures)
+describe-requires c κs = said-by _ _ (c .before .before .before .first-fault .ensures)
 
 returns-2 : tie.Need-returns-2 Inv-loop μ-loop
 returns-2 c =
-    let sync = c .before .before .before .before .before .before in
+    let sync = c .before .before .before .before .before .before .before in
     let s = sync .before .before .before .args .recording .now in
     let r = sync .next-sync .result in
     let here = next-sync s _ r (sync .next-sync .ensures) in
-    let said = said-by (drop r s) _ (rw part at (c .before .before .before .first-fault .ensures)) in
+    let said = said-by (drop r s) _ (rw part at (c .before .before .before .before .first-fault .ensures)) in
     let first = next-here s r (omega arith) (here .here (omega arith)) (λ w. c .before .before .if2 .taken (sym (said .by-verdict) ∙ w)) in
     rw part at (c .describe .ensures) ∙ sym first ∙ next-by s r _ (sym (after-sync s (sync .before .loop .at) r here) ∙ sync .before .loop .inv)
 
@@ -83,13 +83,13 @@ add-at : tie.Need-add-at Inv-loop μ-loop
 add-at c =
     let sync = c .before .before .before .before .before in
     let s = sync .before .before .before .args .recording .now in
-    omega (arith, whole-moves s (sync .next-sync .result) _ (omega arith) (rw part at (c .before .before .first-fault .ensures)) (c .before .if2 .left))
+    omega (arith, whole-moves s (sync .next-sync .result) _ (omega arith) (rw part at (c .before .before .first-fault .ensures)) (c .if2 .left))
 
 loop-less : tie.Need-loop-less Inv-loop μ-loop
 loop-less c =
     let sync = c .before .before .before .before .before in
     let s = sync .before .before .before .args .recording .now in
-    let moved = whole-moves s (sync .next-sync .result) _ (omega arith) (rw part at (c .before .before .first-fault .ensures)) (c .before .if2 .left) in
+    let moved = whole-moves s (sync .next-sync .result) _ (omega arith) (rw part at (c .before .before .first-fault .ensures)) (c .if2 .left) in
     omega (arith, moved, next-sync s _ _ (sync .next-sync .ensures) .after)
 
 loop-again : tie.Need-loop-again Inv-loop μ-loop
@@ -98,7 +98,7 @@ loop-again c =
     let s = sync .before .before .before .args .recording .now in
     let r = sync .next-sync .result in
     let said = said-by (drop r s) _ (rw part at (c .before .before .first-fault .ensures)) in
-    let on = after-whole s r (said .by-verdict ∙ c .before .if2 .left) in
+    let on = after-whole s r (said .by-verdict ∙ c .if2 .left) in
     ap (λ (n : ℕ). faultsAfter s (r + n)) (sym (said .by-offset))
     ∙ sym on
     ∙ sym (after-sync s (sync .before .loop .at) r (next-sync s _ r (sync .next-sync .ensures)))
