@@ -8,6 +8,7 @@ use Rattle.checksum.specs.Checksum.{checksumFrom}
 use Rattle.stream.specs.Layout.{kindOf, headerLength, frameWidth, telegramFrames, frameCount, streamLength}
 use Rattle.stream.specs.declared.Kind.{Kind}
 use Rattle.stream.specs.declared.Kind.the-variants.{Packet, Datagram, Telegram, Unknown}
+use Rattle.stream.specs.Sync.{syncFrom, nextSync}
 use Rattle.stream.specs.Unused.{blockWidth, unusedFrames, unusedIn, countNonzero, unusedSeptets}
 use Rattle.stream.specs.Validation.{frameRule, headerRule, ruleAt, breach, faultAt, validationFrom, validationOf}
 
@@ -55,3 +56,8 @@ unused-telegram = refl
 counted : countNonzero (0 ∷ 1 ∷ 0 ∷ 7 ∷ []) ≡ 2
 unfolding countNonzero choose
 counted = refl
+
+-- the sync byte is 0xAA alone; without one, the place behind the bytes or, past them, the start
+syncs : map (nextSync (0xAB ∷ 0xAA ∷ 0xAA ∷ 0x2A ∷ [])) (0 ∷ 1 ∷ 2 ∷ 3 ∷ 4 ∷ 6 ∷ []) ≡ 1 ∷ 1 ∷ 2 ∷ 4 ∷ 4 ∷ 6 ∷ []
+unfolding nextSync syncFrom choose
+syncs = refl
