@@ -17,7 +17,7 @@ use Rattle.recording.proofs.Deliveries.{Whole, whole-sync}
 use Rattle.recording.proofs.Nexts.{next-exactly}
 use Rattle.diagnosis.specs.declared.Fault.{Fault}
 use Rattle.diagnosis.specs.Fault.{isFault, faultOf, faultsFrom, faultsAfter, nextFault}
-use Rattle.diagnosis.specs.Reason.{Asked, ended, again, syncsFrom, isIn, without, faultPlaces, deliveryPlaces}
+use Rattle.diagnosis.specs.Reason.{Asked, ended, again, syncPlacesFrom, isIn, without, faultPlaces, deliveryPlaces}
 use Rattle.diagnosis.proofs.Faults.{fault-is, fault-sync, fault-not-whole, no-sync-no-fault, whole-no-fault, first-of, next-here, found-at, none-after}
 
 -- ── asked one after the other
@@ -76,11 +76,11 @@ weaker : (q : ℕ) (l : List ℕ) → AtLeast (suc q) l → AtLeast q l
 weaker q [] a = tt
 weaker q (x ∷ rest) a = (omega (arith, a .0), weaker q rest (a .1))
 
-syncs-least : (q : ℕ) (s : List ℕ) → AtLeast q (syncsFrom q s)
-unfolding syncsFrom
+syncs-least : (q : ℕ) (s : List ℕ) → AtLeast q (syncPlacesFrom q s)
+unfolding syncPlacesFrom
 syncs-least q [] = tt
 syncs-least q (byte ∷ rest) =
-    let later = weaker q (syncsFrom (suc q) rest) (syncs-least (suc q) rest) in
+    let later = weaker q (syncPlacesFrom (suc q) rest) (syncs-least (suc q) rest) in
     choose-by (AtLeast q) _ (λ e. (omega arith, later)) (λ e. later)
 
 deliveries-least : (q : ℕ) (s : List ℕ) → AtLeast q (deliveryPlaces (deliveriesFrom q s))
@@ -101,21 +101,21 @@ without-less q gone (x ∷ rest) a = rw (ne-eqb x q (λ e. omega (arith, a .0)),
 
 -- the places of the 0xAA that gave no record
 abbrev unanswered : ℕ → List ℕ → List ℕ
-unanswered q rest = without (deliveryPlaces (deliveriesFrom q rest)) (syncsFrom q rest)
+unanswered q rest = without (deliveryPlaces (deliveriesFrom q rest)) (syncPlacesFrom q rest)
 
 module _ (q byte : ℕ) (rest : List ℕ) where
   no-sync : (byte ≡ 0xAA → ⊥) → unanswered q (byte ∷ rest) ≡ unanswered (suc q) rest
-  unfolding deliveriesFrom syncsFrom choose
+  unfolding deliveriesFrom syncPlacesFrom choose
   no-sync other = rw (ne-eqb (validationOf (byte ∷ rest) .verdict) 0 (λ w. other (whole-sync (byte ∷ rest) w)), ne-eqb byte 0xAA other) refl
 
   whole-place : byte ≡ 0xAA → Whole (byte ∷ rest) → unanswered q (byte ∷ rest) ≡ unanswered (suc q) rest
-  unfolding deliveriesFrom syncsFrom without choose
+  unfolding deliveriesFrom syncPlacesFrom without choose
   whole-place sync w =
       rw (eq-eqb (validationOf (byte ∷ rest) .verdict) 0 w, eq-eqb byte 0xAA sync, eq-eqb q q refl)
-      (without-less q (deliveryPlaces (deliveriesFrom (suc q) rest)) (syncsFrom (suc q) rest) (syncs-least (suc q) rest))
+      (without-less q (deliveryPlaces (deliveriesFrom (suc q) rest)) (syncPlacesFrom (suc q) rest) (syncs-least (suc q) rest))
 
   fault-place : byte ≡ 0xAA → (Whole (byte ∷ rest) → ⊥) → unanswered q (byte ∷ rest) ≡ q ∷ unanswered (suc q) rest
-  unfolding deliveriesFrom syncsFrom without choose
+  unfolding deliveriesFrom syncPlacesFrom without choose
   fault-place sync bad =
       rw (ne-eqb (validationOf (byte ∷ rest) .verdict) 0 bad, eq-eqb byte 0xAA sync, not-in q _ (deliveries-least (suc q) rest)) refl
 
@@ -128,7 +128,7 @@ module _ (q byte : ℕ) (rest : List ℕ) where
   told e = rw e
 
 places-from : (q : ℕ) (s : List ℕ) → faultPlaces (faultsFrom q s) ≡ unanswered q s
-unfolding faultsFrom deliveriesFrom syncsFrom without
+unfolding faultsFrom deliveriesFrom syncPlacesFrom without
 places-from q [] = refl
 places-from q (byte ∷ rest) =
     let t = byte ∷ rest in
@@ -143,5 +143,5 @@ places-from q (byte ∷ rest) =
     (λ other. ap faultPlaces (passed q byte rest (no-sync-no-fault t other)) ∙ later ∙ sym (no-sync q byte rest other))
 
 -- asked from the start until there is none, what is told stands at the places of the 0xAA, in order, but those of the deliveries
-pub faults-exactly : (s : List ℕ) (fs : List Fault) → Asked s 0 fs → faultPlaces fs ≡ without (deliveryPlaces (deliveriesFrom 0 s)) (syncsFrom 0 s)
+pub faults-exactly : (s : List ℕ) (fs : List Fault) → Asked s 0 fs → faultPlaces fs ≡ without (deliveryPlaces (deliveriesFrom 0 s)) (syncPlacesFrom 0 s)
 faults-exactly s fs asked = ap faultPlaces (asked-faults s 0 fs asked) ∙ places-from 0 s

@@ -14,17 +14,17 @@ use lib.ListN.{length, getD, take, drop, drop-of-length-le}
 use lib.Seq.{drop-cons, getD-drop}
 use Rattle.basics.specs.Choice.{choose}
 use Rattle.checksum.specs.Checksum.{checksumOf}
-use Rattle.stream.specs.Layout.{kind, frameWidth}
+use Rattle.stream.specs.Layout.{kind, payloadLength}
 use Rattle.stream.specs.declared.Kind.{Kind}
 use Rattle.stream.specs.declared.Kind.the-variants.{Packet, Datagram, Telegram, Unknown}
 use Rattle.stream.specs.declared.Stop.{Stop}
-use Rattle.stream.specs.Validation.{validationOf, stopOf, isWhole}
+use Rattle.stream.specs.Validation.{headerSum, frameSum, ruleAt, validationOf, stopOf, isWhole}
 use Rattle.stream.proofs.Offsets.{low-before}
 use Rattle.stream.proofs.Syncs.{NextSync}
 use Rattle.recording.proofs.Deliveries.{Whole, whole-sync}
 use Rattle.diagnosis.specs.declared.Fault.{Fault}
-use Rattle.diagnosis.specs.Fault.{isFault, frameSumBefore, hasByte, hasWanted, wantedAt, faultBy, faultOf, faultsFrom, faultsAfter, none, firstOf, nextFault}
-use Rattle.diagnosis.specs.Stage.{SaidOf}
+use Rattle.diagnosis.specs.Fault.{isFault, hasByte, hasWanted, wantedAt, faultBy, faultOf, faultsFrom, faultsAfter, none, firstOf, nextFault}
+use Rattle.diagnosis.specs.Stage.{SaidOf, width}
 
 -- ── a stretch
 
@@ -52,31 +52,30 @@ module _ (s : List ℕ) (e : isFault s ≡ true) where
 -- ── the byte wanted, by the verdict
 
 module _ (s : List ℕ) (v k : ℕ) where
-  pub wanted-header : v ≡ 4 → wantedAt s v k ≡ checksumOf (take (k - 1) (drop 1 s))
+  pub wanted-header : v ≡ 4 → ruleAt (kind s) k ≡ headerSum (k - 1) → wantedAt s v k ≡ checksumOf (take (k - 1) (drop 1 s))
   unfolding wantedAt choose
-  wanted-header four = rw (eq-eqb v 4 four)
+  wanted-header four rule = rw (eq-eqb v 4 four, rule) refl
 
-  pub wanted-frame : v ≡ 6 → (w : ℕ) → w ≡ frameWidth (kind s) → w + 1 ≤ k → wantedAt s v k ≡ checksumOf (take (k - (k - (w + 1))) (drop (k - (w + 1)) s))
+  pub wanted-frame : v ≡ 6 → (w : ℕ) → ruleAt (kind s) k ≡ frameSum w → w + 1 ≤ k → wantedAt s v k ≡ checksumOf (take (k - (k - (w + 1))) (drop (k - (w + 1)) s))
   unfolding wantedAt choose
-  wanted-frame six w is room =
-      let size : w + 1 ≡ k - (k - (w + 1)) = omega arith in
-      ap (λ (n : ℕ). wantedAt s n k) six
-      ∙ ap (λ (n : ℕ). frameSumBefore n s k) (sym is)
-      ∙ ap (λ (n : ℕ). checksumOf (take n (drop (k - (w + 1)) s))) size
+  wanted-frame six w rule room =
+      let size : k - (k - (w + 1)) ≡ w + 1 = omega arith in
+      ap (λ (n : ℕ). wantedAt s n k) six ∙ rw (rule, size) refl
 
   pub wanted-none : (v ≡ 4 → ⊥) → (v ≡ 6 → ⊥) → wantedAt s v k ≡ 0
   unfolding wantedAt choose
   wanted-none four six = rw (ne-eqb v 4 four, ne-eqb v 6 six)
 
-pub frameWidth-most : (K : Kind) → frameWidth K ≤ 7
-unfolding frameWidth
-frameWidth-most Packet = omega arith
-frameWidth-most Datagram = omega arith
-frameWidth-most Telegram = omega arith
-frameWidth-most Unknown = omega arith
+-- the payload bytes of a frame are few
+pub width-most : (K : Kind) → payloadLength K 1 ≤ 7
+unfolding payloadLength
+width-most Packet = omega arith
+width-most Datagram = omega arith
+width-most Telegram = omega arith
+width-most Unknown = omega arith
 
-pub width-is : (w : ℕ) (K L : Kind) → w ≡ frameWidth K → K ≡ L → w ≡ frameWidth L
-width-is w K L e f = e ∙ ap frameWidth f
+pub width-is : (w : ℕ) (s : List ℕ) (K : Kind) → w ≡ payloadLength K 1 → K ≡ kind s → w ≡ width s
+width-is w s K e is = e ∙ ap (λ (L : Kind). payloadLength L 1) is
 
 -- ── what is told, by what was found out
 

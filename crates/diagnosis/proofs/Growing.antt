@@ -8,14 +8,14 @@ use mathlib.Core.List.{List, [], _∷_, _++_, append-assoc, append-nil}
 use borrow.Author.Count.{below-more}
 use borrow.Author.Tests.{eq-eqb, ne-eqb}
 use lib.Dec.{eqb}
-use lib.ListN.{length, getD, take, drop, length-append, List·getD-eq-default}
+use lib.ListN.{length, getD, take, length-append, List·getD-eq-default}
 use lib.Seq.{take-take, take-length, take-append-seam, length-take-le, getD-append-seam}
 use Rattle.basics.specs.Choice.{choose}
 use Rattle.checksum.specs.Checksum.{checksumOf}
 use Rattle.checksum.proofs.Laws.{checksumOf-below}
 use Rattle.stream.specs.Layout.{kindOf, kind, headerLength, streamLength}
 use Rattle.stream.specs.declared.Kind.{Kind}
-use Rattle.stream.specs.Validation.{Rule, any, unknown, headerSum, frameSum, headerRule, ruleAt, breach, faultAt}
+use Rattle.stream.specs.Validation.{Rule, any, unknown, headerSum, frameSum, headerRule, ruleAt, sumAt, breach, faultAt}
 use Rattle.stream.specs.declared.Validation.{Validation}
 use Rattle.stream.proofs.Faults.{breach-any, sync-right, fault-low, low-held}
 use Rattle.stream.proofs.Lengths.{as-low}
@@ -29,32 +29,25 @@ CleanTo s k = (i : ℕ) → i < k → faultAt s i ≡ 0
 
 -- ── what may stand behind some bytes
 
--- the byte that a rule wants at offset k, behind p
-abbrev pub rightBy : Rule → List ℕ → ℕ → ℕ
-rightBy any p k = 0
-rightBy unknown p k = 0
-rightBy (headerSum n) p k = checksumOf (take n (drop 1 p))
-rightBy (frameSum width) p k = checksumOf (take (width + 1) (drop (k - (width + 1)) p))
-
 -- the sync byte, a packet's version, a right checksum, or else 0
 unfoldable nextByte : List ℕ → ℕ
-nextByte p = choose (eqb (length p) 0) 0xAA (choose (eqb (length p) 5) 0x10 (rightBy (ruleAt (kind p) (length p)) p (length p)))
+nextByte p = choose (eqb (length p) 0) 0xAA (choose (eqb (length p) 5) 0x10 (sumAt (ruleAt (kind p) (length p)) p (length p)))
 
-right-low : (rule : Rule) (p : List ℕ) (k : ℕ) → rightBy rule p k < 128
+right-low : (rule : Rule) (p : List ℕ) (k : ℕ) → sumAt rule p k < 128
 right-low any p k = omega arith
 right-low unknown p k = omega arith
 right-low (headerSum n) p k = checksumOf-below _
 right-low (frameSum width) p k = checksumOf-below _
 
 module _ {p u : List ℕ} {k : ℕ} (K : Kind) (same : Same k p u) where
-  pub same-right : (rule : Rule) → Fits K rule k → rightBy rule p k ≡ rightBy rule u k
+  pub same-right : (rule : Rule) → Fits K rule k → sumAt rule p k ≡ sumAt rule u k
   same-right any f = refl
   same-right unknown f = refl
   same-right (headerSum n) f = ap checksumOf (same-part same 1 n (omega (arith, f .0)))
   same-right (frameSum width) f = ap checksumOf (same-part same (k - (width + 1)) (width + 1) (omega (arith, f .1)))
 
 -- what stands at k holds the rule if it is what the rule wants
-right-kept : (K : Kind) (rule : Rule) (u : List ℕ) (k : ℕ) → Fits K rule k → (k ≡ 5 → ⊥) → getD u k 0 ≡ rightBy rule u k → breach rule u k ≡ 0
+right-kept : (K : Kind) (rule : Rule) (u : List ℕ) (k : ℕ) → Fits K rule k → (k ≡ 5 → ⊥) → getD u k 0 ≡ sumAt rule u k → breach rule u k ≡ 0
 unfolding breach choose
 right-kept K any u k f ne e = refl
 right-kept K unknown u k f ne e = absurd (ne f)
@@ -69,7 +62,7 @@ module _ (p t : List ℕ) where
   here b = getD-append-seam p b t 0
 
   -- a low byte that holds its rule
-  pub next-held : (b : ℕ) → 0 < length p → (length p ≡ 5 → ⊥) → b ≡ rightBy (ruleAt (kind p) (length p)) p (length p) → faultAt (p ++ (b ∷ t)) (length p) ≡ 0
+  pub next-held : (b : ℕ) → 0 < length p → (length p ≡ 5 → ⊥) → b ≡ sumAt (ruleAt (kind p) (length p)) p (length p) → faultAt (p ++ (b ∷ t)) (length p) ≡ 0
   next-held b pos ne e =
       let u = p ++ (b ∷ t) in
       let k = length p in

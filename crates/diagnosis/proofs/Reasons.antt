@@ -4,29 +4,29 @@ use native.Mathlib.Omega.{arith}
 use native.Mathlib.Numerals.{add-one}
 use native.Mathlib.Decide.{ℕ-discrete, decLt}
 use mathlib.Core.Path.{_≡_, refl, ap, _∙_, sym, subst, subst⁻¹}
-use mathlib.Core.Logic.{dite}
+use mathlib.Core.Logic.{dite, _≢_, _↔_, _⊎_, inl, inr, ⊎-elim}
 use mathlib.Core.Bool.{Bool, true, false, true≢false}
 use mathlib.Core.List.{List, [], _∷_, _++_, append-assoc}
 use borrow.Author.Tests.{eqb-true, eq-eqb, ne-eqb}
-use lib.ListN.{length, getD, take, drop}
-use lib.Seq.{take-at, take-suc, take-length, length-take-le}
+use lib.ListN.{length, getD, take, drop, length-drop}
+use lib.Seq.{take-at, take-suc, length-take-le}
 use Rattle.basics.specs.Choice.{choose}
-use Rattle.basics.proofs.Choice.{equal-of-zero}
-use Rattle.checksum.specs.Checksum.{checksumOf}
-use Rattle.stream.specs.Layout.{kind, frameWidth, streamLength}
+use Rattle.basics.proofs.Choice.{choose-by, equal-of-zero}
+use Rattle.stream.specs.Layout.{kind, headerLength, frameWidth, frameCount, lengthAs, streamLength, payloadLength}
 use Rattle.stream.specs.declared.Kind.{Kind}
-use Rattle.stream.specs.Validation.{Rule, any, unknown, headerSum, frameSum, ruleAt, breach, faultAt, validationOf}
-use Rattle.stream.proofs.Faults.{sync-right, sync-wrong, fault-low, fault-high, low-held, fault-most}
+use Rattle.stream.specs.declared.Kind.the-variants.{Packet, Datagram, Telegram, Unknown}
+use Rattle.stream.specs.Validation.{Rule, any, unknown, headerSum, frameSum, headerRule, ruleAt, sumAt, breach, faultAt, validationOf}
+use Rattle.stream.proofs.Faults.{rule-header, sync-right, sync-wrong, fault-low, fault-high, low-held, fault-most}
 use Rattle.stream.proofs.Offsets.{NotWhole, cut, broken, not-whole}
 use Rattle.stream.proofs.Prefixes.{Same, Fits, fits, same-rule, same-long, fault-stays}
 use Rattle.stream.proofs.Reached.{whole-clean}
 use Rattle.recording.proofs.Deliveries.{Whole}
 use Rattle.diagnosis.specs.Fault.{hasByte, hasWanted, wantedAt, faultBy, faultOf, nextFault}
-use Rattle.diagnosis.specs.Reason.{CanGrow, ReasonTrue, WantedRight}
+use Rattle.diagnosis.specs.Reason.{VerdictTold, CanGrow, ReasonTrue, WantedRight}
 use Rattle.diagnosis.specs.Stage.{SaidOf, SumsAt}
 use Rattle.diagnosis.specs.declared.Fault.{Fault}
 use Rattle.diagnosis.proofs.Faults.{found-at, fault-not-whole}
-use Rattle.diagnosis.proofs.Growing.{CleanTo, rightBy, same-right, here, next-held, grown-more, grown-can, size, taken, taken-grown, taken-below}
+use Rattle.diagnosis.proofs.Growing.{CleanTo, same-right, here, next-held, grown-more, grown-can, size, taken, taken-grown, taken-below}
 
 -- ── the rule that a byte at fault breaks
 
@@ -68,7 +68,7 @@ has-byte-not v seven has = true≢false (sym has ∙ rw (eq-eqb v 7 seven) refl)
 no-byte-seven : (v : ℕ) → hasByte v ≡ false → v ≡ 7
 no-byte-seven v lacks = dite (ℕ-discrete v 7) (λ e. e) (λ ne. absurd (true≢false (rw (ne-eqb v 7 ne) at lacks)))
 
-module _ (s : List ℕ) (q : ℕ) where
+module _ (s : List ℕ) (q : ℕ) (there : q ≤ length s) where
   t : List ℕ
   t = drop q s
 
@@ -79,7 +79,7 @@ module _ (s : List ℕ) (q : ℕ) where
         grows = grown-can (take k t) (taken-grown t k (omega arith) clean below);
         stands = λ has. absurd (has-byte-not v seven has);
         stops = λ has. absurd (has-byte-not v seven has);
-        all = λ lacks. rw ends (take-length t);
+        ends = λ lacks. omega (arith, ends, length-drop q s);
       }
   reason-of v k (broken e pos clean below inside) =
       let more : take (k + 1) t ≡ take k t ++ (getD t k 0 ∷ []) = rw add-one (take-suc t k 0 inside) in
@@ -89,7 +89,7 @@ module _ (s : List ℕ) (q : ℕ) where
         stops = λ has g.
             fault-stays {m = k + 1} (record { begin = more ∙ sym (take-at (take k t ++ (getD t k 0 ∷ [])) (g .0) (k + 1) (sym (ap length more) ∙ length-take-le (k + 1) t (omega arith))) })
             k (omega arith) (omega (arith, e)) below (g .1 .whole);
-        all = λ lacks. absurd (omega (arith, e, fault-most t k, no-byte-seven v lacks));
+        ends = λ lacks. absurd (omega (arith, e, fault-most t k, no-byte-seven v lacks));
       }
 
 -- "The reason must be true", of each answer that tells a fault
@@ -97,7 +97,7 @@ pub reason-true : (s : List ℕ) (start : ℕ) → nextFault s start .found ≡ 
 reason-true s start e =
     let at = found-at s start e in
     let q = nextFault s start .place in
-    subst⁻¹ (ReasonTrue s) (at .tells) (reason-of s q _ _ (not-whole (drop q s) (fault-not-whole (drop q s) (at .is))))
+    subst⁻¹ (ReasonTrue s) (at .tells) (reason-of s q (omega (arith, at .inside)) _ _ (not-whole (drop q s) (fault-not-whole (drop q s) (at .is))))
 
 -- ── the byte wanted
 
@@ -109,7 +109,7 @@ IsSum (headerSum n) = Unit {0}
 IsSum (frameSum width) = Unit {0}
 
 -- such a rule wants one byte alone
-right-only : (rule : Rule) (u : List ℕ) (k : ℕ) → IsSum rule → breach rule u k ≡ 0 → getD u k 0 ≡ rightBy rule u k
+right-only : (rule : Rule) (u : List ℕ) (k : ℕ) → IsSum rule → breach rule u k ≡ 0 → getD u k 0 ≡ sumAt rule u k
 unfolding breach
 right-only any u k sum e = absurd sum
 right-only unknown u k sum e = absurd sum
@@ -122,16 +122,17 @@ sum-late K unknown k sum f = absurd sum
 sum-late K (headerSum n) k sum f = f .1
 sum-late K (frameSum width) k sum f = f .2
 
--- V4 and V6 are a checksum's, and the wanted byte is what its rule wants
-wanted-by : (rule : Rule) (s : List ℕ) (v k : ℕ) → Fits (kind s) rule k → verdictOf rule ≡ v → hasWanted v ≡ true → IsSum rule × (wantedAt s v k ≡ rightBy rule s k)
+-- V4 and V6 are a checksum's
+wanted-by : (rule : Rule) (v : ℕ) → verdictOf rule ≡ v → hasWanted v ≡ true → IsSum rule
+wanted-by any v e has = absurd (true≢false (sym has ∙ ap hasWanted (sym e)))
+wanted-by unknown v e has = absurd (true≢false (sym has ∙ ap hasWanted (sym e)))
+wanted-by (headerSum n) v e has = tt
+wanted-by (frameSum width) v e has = tt
+
+-- the byte wanted is what the rule asks for
+wanted-sum : (s : List ℕ) (v k : ℕ) → hasWanted v ≡ true → wantedAt s v k ≡ sumAt (ruleAt (kind s) k) s k
 unfolding wantedAt choose
-wanted-by any s v k f e has = absurd (true≢false (sym has ∙ ap hasWanted (sym e)))
-wanted-by unknown s v k f e has = absurd (true≢false (sym has ∙ ap hasWanted (sym e)))
-wanted-by (headerSum n) s v k f e has =
-    let before : k - 1 ≡ n = omega (arith, f .0) in
-    (tt, ap (λ (x : ℕ). wantedAt s x k) (sym e) ∙ ap (λ (m : ℕ). checksumOf (take m (drop 1 s))) before)
-wanted-by (frameSum width) s v k f e has =
-    (tt, ap (λ (x : ℕ). wantedAt s x k) (sym e) ∙ ap (λ (w : ℕ). checksumOf (take (w + 1) (drop (k - (w + 1)) s))) (sym (f .0)))
+wanted-sum s v k has = rw has
 
 -- 0 to V3 and V7 want no byte
 wants-above : (v : ℕ) → hasWanted v ≡ true → (2 < v) × (v < 7)
@@ -145,7 +146,7 @@ record Wants (s : List ℕ) (k wanted : ℕ) : Type 0 where
   only : (byte : ℕ) → CanGrow (take k s ++ (byte ∷ [])) → byte ≡ wanted
 
 module _ (s : List ℕ) (k wanted : ℕ) (inside : k < length s) (clean : CleanTo s k) (below : k < streamLength s)
-    (sum : IsSum (ruleAt (kind s) k)) (is : wanted ≡ rightBy (ruleAt (kind s) k) s k) where
+    (sum : IsSum (ruleAt (kind s) k)) (is : wanted ≡ sumAt (ruleAt (kind s) k) s k) where
   p : List ℕ
   p = take k s
 
@@ -160,12 +161,12 @@ module _ (s : List ℕ) (k wanted : ℕ) (inside : k < length s) (clean : CleanT
   unfolding p
   same-p = taken s k (omega arith) clean below
 
-  is-right : wanted ≡ rightBy (ruleAt (kind p) (length p)) p (length p)
+  is-right : wanted ≡ sumAt (ruleAt (kind p) (length p)) p (length p)
   is-right =
       rw long
       (is
       ∙ same-right (kind s) same-p (ruleAt (kind s) k) (fits (kind s) k)
-      ∙ ap (λ (r : Rule). rightBy r p k) (same-rule same-p k (omega arith) (λ e. omega (arith, late))))
+      ∙ ap (λ (r : Rule). sumAt r p k) (same-rule same-p k (omega arith) (λ e. omega (arith, late))))
 
   wanted-grows : CanGrow (p ++ (wanted ∷ []))
   unfolding p
@@ -187,21 +188,22 @@ module _ (s : List ℕ) (k wanted : ℕ) (inside : k < length s) (clean : CleanT
       let here-u : getD u k 0 ≡ byte = rw long at (here p t byte) in
       sym here-u
       ∙ right-only (ruleAt (kind u) k) u k (subst IsSum rule sum) kept
-      ∙ ap (λ (r : Rule). rightBy r u k) (sym rule)
+      ∙ ap (λ (r : Rule). sumAt r u k) (sym rule)
       ∙ sym (same-right (kind s) same-u (ruleAt (kind s) k) (fits (kind s) k))
       ∙ sym is
 
--- the rule of a byte that a verdict of V4 or V6 speaks of
-sum-of : (s : List ℕ) (v k : ℕ) → faultAt s k ≡ v → hasWanted v ≡ true → IsSum (ruleAt (kind s) k) × (wantedAt s v k ≡ rightBy (ruleAt (kind s) k) s k)
-sum-of s v k e has =
-    let rule = ruleAt (kind s) k in
-    wanted-by rule s v k (fits (kind s) k) (broken-by rule s v k (breach-of s k v e (wants-above v has .0)) (omega (arith, wants-above v has .0))) has
+-- the rule of a byte that V4 or V6 speaks of, by the verdict
+rule-of : (s : List ℕ) (v k : ℕ) → faultAt s k ≡ v → hasWanted v ≡ true → verdictOf (ruleAt (kind s) k) ≡ v
+rule-of s v k e has =
+    let above = wants-above v has .0 in
+    broken-by (ruleAt (kind s) k) s v k (breach-of s k v e above) (omega (arith, above))
 
 wants-of : (s : List ℕ) (v k : ℕ) → NotWhole s v k → hasWanted v ≡ true → Wants s k (wantedAt s v k)
 unfolding p
 wants-of s v k (cut seven ends clean below) has = absurd (omega (arith, wants-above v has .1))
 wants-of s v k (broken e pos clean below inside) has =
-    let (sum, is) = sum-of s v k e has in
+    let sum = wanted-by (ruleAt (kind s) k) v (rule-of s v k e has) has in
+    let is = wanted-sum s v k has in
     record { grows = wanted-grows s k _ inside clean below sum is; only = wanted-only s k _ inside clean below sum is }
 
 wanted-of : (s : List ℕ) (q : ℕ) → (Whole (drop q s) → ⊥) → faultOf q (drop q s) .«has_wanted» ≡ true → WantedRight s (faultOf q (drop q s))
@@ -217,29 +219,68 @@ wanted-right s start e has =
     subst⁻¹ (WantedRight s) (at .tells)
     (wanted-of s q (fault-not-whole (drop q s) (at .is)) (ap (λ (f : Fault). f .«has_wanted») (sym (at .tells)) ∙ has))
 
+-- ── what is told
+
+wanted-exactly : (v : ℕ) → (hasWanted v ≡ true) ↔ ((v ≡ 4) ⊎ (v ≡ 6))
+wanted-exactly v = (
+  (λ has. dite (ℕ-discrete v 4) (λ four. inl four) (λ other. inr (eqb-true v 6 (rw (ne-eqb v 4 other) at has)))),
+  (λ which. ⊎-elim (λ four. rw four refl) (λ six. rw six refl) which),
+)
+
+byte-exactly : (v : ℕ) → (hasByte v ≡ true) ↔ (v ≢ 7)
+byte-exactly v = ((λ has seven. has-byte-not v seven has), (λ other. rw (ne-eqb v 7 other) refl))
+
+-- "verdict, offset, byte found and, for V4 and V6, byte wanted", of each answer that tells a fault
+pub verdict-told : (s : List ℕ) (start : ℕ) → nextFault s start .found ≡ true → VerdictTold s (nextFault s start)
+verdict-told s start e =
+    subst⁻¹ (VerdictTold s) (found-at s start e .tells)
+    (record { verdict = refl; offset = refl; names-byte = byte-exactly _; names-wanted = wanted-exactly _ })
+
 -- ── the bytes that a wrong checksum should cover are there
 
-frame-behind : (K : Kind) (rule : Rule) (k : ℕ) → Fits K rule k → verdictOf rule ≡ 6 → frameWidth K + 1 ≤ k
-frame-behind K any k f e = absurd (omega arith)
-frame-behind K unknown k f e = absurd (omega arith)
-frame-behind K (headerSum n) k f e = absurd (omega arith)
-frame-behind K (frameSum width) k f e = omega (arith, f .0, f .1)
+-- no header has a frame's checksum
+header-not-six : (K : Kind) (k : ℕ) → verdictOf (headerRule K k) ≡ 6 → ⊥
+unfolding headerRule
+header-not-six Packet k = choose-by (λ (r : Rule). verdictOf r ≡ 6 → ⊥) _ (λ t e. omega arith) (λ t e. omega arith)
+header-not-six Datagram k = choose-by (λ (r : Rule). verdictOf r ≡ 6 → ⊥) _ (λ t e. omega arith) (λ t e. omega arith)
+header-not-six Telegram k = choose-by (λ (r : Rule). verdictOf r ≡ 6 → ⊥) _ (λ t e. omega arith) (λ t e. omega arith)
+header-not-six Unknown k = choose-by (λ (r : Rule). verdictOf r ≡ 6 → ⊥) _ (λ t e. omega arith) (λ t e. omega arith)
+
+-- where a stream has a frame's checksum, a frame has as many payload bytes as the payload of one frame
+width-alike : (K : Kind) (s : List ℕ) (k : ℕ) → k < lengthAs K s → verdictOf (ruleAt K k) ≡ 6 → frameWidth K ≡ payloadLength K 1
+unfolding headerLength frameWidth frameCount payloadLength
+width-alike Packet s k below six = refl
+width-alike Datagram s k below six = absurd (header-not-six Datagram k (ap verdictOf (sym (rule-header Datagram k (omega arith))) ∙ six))
+width-alike Telegram s k below six = refl
+width-alike Unknown s k below six = absurd (header-not-six Unknown k (ap verdictOf (sym (rule-header Unknown k (omega arith))) ∙ six))
+
+-- the rule by the verdict, with what it looks back on
+header-rule : (K : Kind) (rule : Rule) (k : ℕ) → Fits K rule k → verdictOf rule ≡ 4 → (rule ≡ headerSum (k - 1)) × (5 < k)
+header-rule K any k f e = absurd (omega arith)
+header-rule K unknown k f e = absurd (omega arith)
+header-rule K (headerSum n) k f e = let before : n ≡ k - 1 = omega (arith, f .0) in (ap headerSum before, f .1)
+header-rule K (frameSum width) k f e = absurd (omega arith)
+
+frame-rule : (K : Kind) (rule : Rule) (k : ℕ) → Fits K rule k → verdictOf rule ≡ 6 → (rule ≡ frameSum (frameWidth K)) × (frameWidth K + 1 ≤ k) × (5 < k)
+frame-rule K any k f e = absurd (omega arith)
+frame-rule K unknown k f e = absurd (omega arith)
+frame-rule K (headerSum n) k f e = absurd (omega arith)
+frame-rule K (frameSum width) k f e = (ap frameSum (f .0), omega (arith, f .0, f .1), f .2)
 
 sums-of : (s : List ℕ) (v k : ℕ) → NotWhole s v k → SumsAt s v k
+unfolding streamLength
 sums-of s v k (cut seven ends clean below) = record { header = λ e. absurd (omega arith); frame = λ e. absurd (omega arith) }
 sums-of s v k (broken e pos clean below inside) =
     record {
-      header = λ four. let far = late-of (subst⁻¹ (λ (n : ℕ). hasWanted n ≡ true) four refl) in (omega arith, omega arith);
+      header = λ four.
+          let (rule, far) = header-rule (kind s) _ k (fits (kind s) k) (rule-of s v k e (ap hasWanted four) ∙ four) in
+          (rule, omega arith, omega arith);
       frame = λ six.
-          let far = late-of (subst⁻¹ (λ (n : ℕ). hasWanted n ≡ true) six refl) in
-          (omega arith, frame-behind (kind s) rule k (fits (kind s) k) (broken-by rule s v k (breach-of s k v e (omega arith)) pos ∙ six), omega arith);
+          let is = rule-of s v k e (ap hasWanted six) ∙ six in
+          let (rule, room, far) = frame-rule (kind s) _ k (fits (kind s) k) is in
+          let alike = width-alike (kind s) s k below is in
+          (rule ∙ ap frameSum alike, omega arith, omega (arith, room, alike), omega arith);
     }
-  where
-    rule : Rule
-    rule = ruleAt (kind s) k
-
-    late-of : hasWanted v ≡ true → 5 < k
-    late-of has = sum-late (kind s) rule k (sum-of s v k e has .0) (fits (kind s) k)
 
 pub sums-at : (s : List ℕ) (v k : ℕ) → SaidOf s v k → SumsAt s v k
 sums-at s v k said =

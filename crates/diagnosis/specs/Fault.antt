@@ -1,13 +1,12 @@
 -- Why a 0xAA gave no record (request No. 4): the faults of a recording.
-use Prim.Native.Nat.{ℕ, suc, _+_, _-_}
+use Prim.Native.Nat.{ℕ, suc}
 use mathlib.Core.Bool.{Bool, true, false, not, _&&_, _||_}
 use mathlib.Core.List.{List, [], _∷_}
 use lib.Dec.{eqb}
-use lib.ListN.{getD, take, drop}
+use lib.ListN.{getD, drop}
 use Rattle.basics.specs.Choice.{choose}
-use Rattle.checksum.specs.Checksum.{checksumOf}
-use Rattle.stream.specs.Layout.{kind, frameWidth}
-use Rattle.stream.specs.Validation.{validationOf, isWhole}
+use Rattle.stream.specs.Layout.{kind}
+use Rattle.stream.specs.Validation.{ruleAt, sumAt, validationOf, isWhole}
 use Rattle.diagnosis.specs.declared.Fault.{Fault}
 
 -- a 0xAA that gave no record: the stretch from it on isn't V0
@@ -22,15 +21,9 @@ hasByte verdict = not (eqb verdict 7)
 abbrev pub hasWanted : ℕ → Bool
 hasWanted verdict = eqb verdict 4 || eqb verdict 6
 
--- the checksum of a frame's payload bytes and septet, which stand before offset k
-abbrev pub frameSumBefore : ℕ → List ℕ → ℕ → ℕ
-frameSumBefore width s k = checksumOf (take (width + 1) (drop (k - (width + 1)) s))
-
--- the checksum that is right at offset k: for V4 that of offsets 1 to k - 1, for V6 that of the frame that ends there
+-- the byte wanted at offset k: the checksum that the rule there asks for
 unfoldable pub wantedAt : List ℕ → ℕ → ℕ → ℕ
-wantedAt s verdict k =
-    choose (eqb verdict 4) (checksumOf (take (k - 1) (drop 1 s)))
-    (choose (eqb verdict 6) (frameSumBefore (frameWidth (kind s)) s k) 0)
+wantedAt s verdict k = choose (hasWanted verdict) (sumAt (ruleAt (kind s) k) s k) 0
 
 -- what is told of a stretch s that stands from place q on, by the verdict on it and its offset: "place, verdict, offset, byte found and, for
 -- V4 and V6, byte wanted"

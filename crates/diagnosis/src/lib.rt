@@ -1,13 +1,10 @@
 // Why a sync byte gave no record (request No. 4).
 ghost use mathlib.Core.Path.{_≡_};
 ghost use lib.ListN.{getD};
-ghost use Rattle.stream.specs.Layout.{frameWidth};
 ghost use Rattle.diagnosis.specs.Fault.{hasWanted, wantedAt, faultOf, nextFault};
 ghost use Rattle.diagnosis.specs.Stage.{SaidOf, SumsAt};
-use stream::Kind;
-
 // A sync byte that gave no record, and why: its place, the verdict on the stretch from there on with its offset, the byte that stands
-// at the offset, and the byte that would have been right there. Where there is none, all is zero.
+// at the offset and, for V4 and V6, the byte that would have been right. Without a fault all is zero.
 #[repr(C)]
 pub struct Fault {
     pub found: bool,
@@ -35,18 +32,6 @@ fn none() -> Fault
     }
 }
 
-// The payload bytes of a frame.
-fn frame_width(kind: Kind) -> usize
-    ensures { λ r. ⌜ r ≡ frameWidth kind ⌝ }
-{
-    match kind {
-        Kind::Packet => 4,
-        Kind::Datagram => 0,
-        Kind::Telegram => 7,
-        Kind::Unknown => 0,
-    }
-}
-
 fn has_wanted(verdict: u8) -> bool
     ensures { λ r. ⌜ r ≡ hasWanted verdict ⌝ }
 {
@@ -65,7 +50,7 @@ fn wanted(stretch: &[u8], verdict: u8, offset: usize) -> u8
         return checksum::checksum(&stretch[1..offset]);
     }
     if verdict == 6 {
-        let size = frame_width(stream::kind_of(stretch[5])) + 1;
+        let size = stream::payload_length(stream::kind_of(stretch[5]), 1) + 1;
         let start = offset - size;
         return checksum::checksum(&stretch[start..offset]);
     }
@@ -100,8 +85,9 @@ fn describe(stretch: &[u8], place: usize, verdict: u8, offset: usize) -> Fault
     }
 }
 
-// The first sync byte at or after `start` that gave no record, and why. To go on, start one place behind it: a stretch is looked
-// at up to the next sync byte at most, so asking for one after the other takes time that grows with the recording alone.
+// The first sync byte at or after `start` that gave no record, and why. To go on, start one place behind it: a stretch is looked at no
+// further than the header or frame in which the next byte of 0x80 or more stands, so asking for one fault after the other takes time that
+// grows with the recording alone.
 pub fn next_fault(recording: &[u8], start: usize) -> Fault
     ensures { λ r. ⌜ r ≡ nextFault (now (recording .entry)) start ⌝ }
 {
@@ -127,22 +113,22 @@ pub struct Cursor<'a> {
 }
 
 // A cursor at a place of a recording.
-pub fn over<'a>(recording: &'a [u8], place: usize) -> Cursor<'a>
+pub fn cursor_at<'a>(recording: &'a [u8], place: usize) -> Cursor<'a>
     ensures { λ r. ⌜ (r .recording ≡ recording .entry) × (r .place ≡ place) ⌝ }
 {
     Cursor { recording, place }
 }
 
 // The first fault from the cursor on.
-pub fn read<'a>(cursor: Cursor<'a>) -> Fault
+pub fn read_fault<'a>(cursor: Cursor<'a>) -> Fault
     ensures { λ r. ⌜ r ≡ nextFault (now (cursor .entry .recording)) (cursor .entry .place) ⌝ }
 {
     next_fault(cursor.recording, cursor.place)
 }
 
-// What a cursor at a place reads. Whoever calls this needs no proof by hand, as whoever holds a cursor does.
-pub fn read_at(recording: &[u8], place: usize) -> Fault
+// What a cursor at a place reads, for whoever keeps the place and no cursor.
+pub fn read_fault_at(recording: &[u8], place: usize) -> Fault
     ensures { λ r. ⌜ r ≡ nextFault (now (recording .entry)) place ⌝ }
 {
-    read(over(recording, place))
+    read_fault(cursor_at(recording, place))
 }

@@ -15,7 +15,7 @@ pub fn lines(input: &[u8], out: &mut [u8]) -> usize
     let mut place = 0;
     let mut to = 0;
     loop {
-        let fault = diagnosis::read_at(input, place);
+        let fault = diagnosis::read_fault_at(input, place);
         if fault.found {
             let written = line(fault, &mut out[to..]);
             to += written.length;

@@ -49,13 +49,19 @@ ruleAt kind k =
     choose (ltb k (headerLength kind)) (headerRule kind k)
     (frameRule (frameWidth kind) ((k - headerLength kind) % (frameWidth kind + 2)))
 
--- the verdict's number where the byte at offset k breaks a rule, else 0: V3, V4 and V6; request No. 3: "Checksums still cover the bytes
--- as they came"
+-- the checksum that a rule asks for at offset k, or 0; request No. 3: "Checksums still cover the bytes as they came"
+abbrev pub sumAt : Rule → List ℕ → ℕ → ℕ
+sumAt any s k = 0
+sumAt unknown s k = 0
+sumAt (headerSum n) s k = checksumOf (take n (drop 1 s))
+sumAt (frameSum width) s k = checksumOf (take (width + 1) (drop (k - (width + 1)) s))
+
+-- the verdict's number where the byte at offset k breaks a rule, else 0: V3, V4 and V6
 unfoldable pub breach : Rule → List ℕ → ℕ → ℕ
 breach any s k = 0
 breach unknown s k = 3
-breach (headerSum n) s k = choose (eqb (getD s k 0) (checksumOf (take n (drop 1 s)))) 0 4
-breach (frameSum width) s k = choose (eqb (getD s k 0) (checksumOf (take (width + 1) (drop (k - (width + 1)) s)))) 0 6
+breach (headerSum n) s k = choose (eqb (getD s k 0) (sumAt (headerSum n) s k)) 0 4
+breach (frameSum width) s k = choose (eqb (getD s k 0) (sumAt (frameSum width) s k)) 0 6
 
 -- the fault at offset k, or 0; at one offset the upper line of the table wins
 unfoldable pub faultAt : List ℕ → ℕ → ℕ

@@ -38,11 +38,11 @@ loop t = t .before .before
 small : (l : tie.At-loop Inv-loop μ-loop) → (length (input l) < 2 ^ 64) × (length (l .loop .out) < 2 ^ 64)
 small l = (omega arith, omega arith)
 
-found : (t : tie.Then1 Inv-loop μ-loop) → Next (input (loop t)) (loop t .loop .place) (t .before .read-at .result)
-found t = next-line (input (loop t)) (loop t .loop .place) _ (t .before .read-at .ensures) (t .if1 .taken)
+found : (t : tie.Then1 Inv-loop μ-loop) → Next (input (loop t)) (loop t .loop .place) (t .before .read-fault-at .result)
+found t = next-line (input (loop t)) (loop t .loop .place) _ (t .before .read-fault-at .ensures) (t .if1 .taken)
 
 abbrev text : tie.Then1 Inv-loop μ-loop → List ℕ
-text t = lineOf (t .before .read-at .result)
+text t = lineOf (t .before .read-fault-at .result)
 
 fits : (t : tie.Then1 Inv-loop μ-loop) → loop t .loop .to + length (text t) ≤ length (loop t .loop .out)
 fits t =
@@ -70,8 +70,8 @@ wrote l = l .line .ensures .1 ∙ output-written (text (test l)) (rest l) (room 
 loop-holds : tie.Need-loop-holds Inv-loop μ-loop
 loop-holds c = ([], refl, refl, refl, omega arith, refl)
 
-read-at-requires : tie.Need-read-at-requires Inv-loop μ-loop
-read-at-requires c κs = search needs
+read-fault-at-requires : tie.Need-read-fault-at-requires Inv-loop μ-loop
+read-fault-at-requires c κs = search needs
 
 sub-line : tie.Need-sub-line Inv-loop μ-loop
 sub-line c = omega (arith, fits c)
@@ -120,7 +120,7 @@ same-length c = search needs
 returns : tie.Need-returns Inv-loop μ-loop
 returns c =
     let l = c .before .before in
-    let end = no-line (input l) (l .loop .place) _ (c .before .read-at .ensures) (c .if1 .left) in
+    let end = no-line (input l) (l .loop .place) _ (c .before .read-fault-at .ensures) (c .if1 .left) in
     let all : l .loop .inv .0 ≡ explanationOf (input l) = sym (append-nil (l .loop .inv .0)) ∙ rw end at (l .loop .inv .3) in
     (sym (l .loop .inv .1) ∙ ap length all, l .loop .inv .2 ∙ ap (λ (x : List ℕ). over x (l .before .before .before .args .out .now)) all)
 
@@ -131,7 +131,7 @@ lines-spec =
     Inv-loop
     μ-loop
     loop-holds
-    read-at-requires
+    read-fault-at-requires
     sub-line
     part-line-start
     part-line-end

@@ -1,4 +1,4 @@
--- `diagnosis::read_at` meets its contract: a walk of its MIR, by hand. The `Cursor` that `over` returns is held in a local and passed to `read`. All
+-- `diagnosis::read_fault_at` meets its contract: a walk of its MIR, by hand. The `Cursor` that `cursor_at` returns is held in a local and passed to `read_fault`. All
 -- that the proof knows of either is that it meets its contract.
 -- In a local of a body MIR erases the lifetime of the struct's type, so the value is shown to have the type at `erased`: what the struct owns does not
 -- say the lifetime's name.
@@ -46,18 +46,18 @@ use Rattle.diagnosis.proofs.Cursor as T
 use Rattle.diagnosis.proofs.Cursor.Laws as T′
 use Rattle.diagnosis.proofs.Fault as S
 use Rattle.diagnosis.proofs.Fault.Laws as S′
-use Rattle.diagnosis.proofs.over as over
-use Rattle.diagnosis.proofs.over.Symbol as over-def
-use Rattle.diagnosis.proofs.over.Symbol.{name as #diagnosis·over}
-use Rattle.diagnosis.proofs.over.Met as over-thm
-use Rattle.diagnosis.proofs.read as read
-use Rattle.diagnosis.proofs.read.Symbol as read-def
-use Rattle.diagnosis.proofs.read.Symbol.{name as #diagnosis·read}
-use Rattle.diagnosis.proofs.read.Met as read-thm
-use Rattle.diagnosis.proofs.read_at.Key.{name as #diagnosis·read-at}
-use Rattle.diagnosis.proofs.read_at as read-at
-use Rattle.diagnosis.proofs.read_at.Statement as stated
-use Rattle.diagnosis.proofs.read_at.Code as code
+use Rattle.diagnosis.proofs.cursor_at as over
+use Rattle.diagnosis.proofs.cursor_at.Symbol as over-def
+use Rattle.diagnosis.proofs.cursor_at.Symbol.{name as #diagnosis·cursor-at}
+use Rattle.diagnosis.proofs.cursor_at.Met as over-thm
+use Rattle.diagnosis.proofs.read_fault as read
+use Rattle.diagnosis.proofs.read_fault.Symbol as read-def
+use Rattle.diagnosis.proofs.read_fault.Symbol.{name as #diagnosis·read-fault}
+use Rattle.diagnosis.proofs.read_fault.Met as read-thm
+use Rattle.diagnosis.proofs.read_fault_at.Key.{name as #diagnosis·read-fault-at}
+use Rattle.diagnosis.proofs.read_fault_at as read-at
+use Rattle.diagnosis.proofs.read_fault_at.Statement as stated
+use Rattle.diagnosis.proofs.read_fault_at.Code as code
 
 -- the struct's type, over the signature's lifetimes
 abbrev B : Lfts 1 → RattleType
@@ -95,7 +95,7 @@ module _ {M : Type 1} (𝓤 : URA M) (H : Heap 𝓤) (A : Atoms 𝓤) (W : Given
   abbrev Own : Fml
   Own = ShrSlice (named 0) κ u8 .own s (v ∷ [])
 
-  -- the call of `over`: what it is passed, what it asks, and what is known of its result
+  -- the call of `cursor_at`: what it is passed, what it asks, and what is known of its result
   abbrev to-over : Over 𝓤 H A mem run .Ghost
   to-over = (((κ, tt), (q, tt), tt, (s, (place, tt)), passed), tt)
 
@@ -108,7 +108,7 @@ module _ {M : Type 1} (𝓤 : URA M) (H : Heap 𝓤) (A : Atoms 𝓤) (W : Given
   over-said : (r : Cursor) → ent 𝓤 (ensured 𝓤 H A over.ended (over.clauses 𝓤 H A mem run) (κ, tt) (s, (place, tt)) tt r) (fact 𝓤 ((r .recording ≡ s) × (r .place ≡ place)))
   over-said r = exE 𝓤 _ (λ ws. snd∗ 𝓤 (sem 𝓤 H A (lasts over.ended (κ, tt) (s, (place, tt)) ws)) (fact 𝓤 ((r .recording ≡ s) × (r .place ≡ place))))
 
-  -- the call of `read`, at the struct r with the machine value u
+  -- the call of `read_fault`, at the struct r with the machine value u
   abbrev to-read : Cursor → Val → Read 𝓤 H A mem run .Ghost
   to-read r u = (((κ, tt), (q, tt), tt, (r, tt), (u ∷ [], tt)), tt)
 
@@ -124,7 +124,7 @@ module _ {M : Type 1} (𝓤 : URA M) (H : Heap 𝓤) (A : Atoms 𝓤) (W : Given
       suffices ! _ (ends-at 𝓤 H A read-at.ended stayed (read-at.clauses 𝓤 H A mem run) W (((κ, tt), (q, tt), tt, (s, (place, tt)), passed), tt) u t (tt, (tt, tt)) (tt, (tt, tt))) $ says ! e $
       move ! (1 ∷ []) $ frame ! $ nothing ! $ owned ! usize (Is usize) (uint-makes 𝓤 H A W w64) place _ (refl, fits) $ fjoin ! $ move ! (2 ∷ 0 ∷ []) $ fjoin ! $ frame ! $ done !
 
-  module _ (C : Calls 𝓤 H) (Λ : Loops 𝓤 H) (fm : FmC 𝓤 H (W .laws) C) (known-over : Triple 𝓤 (C #diagnosis·over) (Over 𝓤 H A mem run)) (known-read : Triple 𝓤 (C #diagnosis·read) (Read 𝓤 H A mem run)) where
+  module _ (C : Calls 𝓤 H) (Λ : Loops 𝓤 H) (fm : FmC 𝓤 H (W .laws) C) (known-over : Triple 𝓤 (C #diagnosis·cursor-at) (Over 𝓤 H A mem run)) (known-read : Triple 𝓤 (C #diagnosis·read-fault) (Read 𝓤 H A mem run)) where
     walk : Is (ShrSlice (named 0) κ u8) s (v ∷ []) → ent 𝓤 (onEntry 𝓤 H A read-at.signature (κ, tt) (q, tt) (s, (place, tt)) passed) (WpFn 𝓤 H C Λ code.function (v ∷ vint w64 place ∷ []) Post)
     walk p =
         qed W (raw (onEntry 𝓤 H A read-at.signature (κ, tt) (q, tt) (s, (place, tt)) passed) ∷ []) ∵ enter ! C Λ code.function (v ∷ vint w64 place ∷ []) _ $
@@ -148,22 +148,22 @@ module _ {M : Type 1} (𝓤 : URA M) (H : Heap 𝓤) (A : Atoms 𝓤) (W : Given
         by ! (exits t u′ (e′ ∙ (ap (λ (x : RefT (List ℕ)). nextFault (now x) (r .place)) (e .0) ∙ ap (nextFault (now s)) (e .1))))))))))))))))
 
 module _ {M : Type 1} (𝓤 : URA M) (H : Heap 𝓤) (A : Atoms 𝓤) (W : Given 𝓤 H A) (mem : Memory → SProp 𝓤) (run : Routine → Fun 𝓤) where
-  read-at-walks : (C : Calls 𝓤 H) (Λ : Loops 𝓤 H) → FmC 𝓤 H (W .laws) C → Triple 𝓤 (C #diagnosis·over) (Over 𝓤 H A mem run) → Triple 𝓤 (C #diagnosis·read) (Read 𝓤 H A mem run)
+  read-at-walks : (C : Calls 𝓤 H) (Λ : Loops 𝓤 H) → FmC 𝓤 H (W .laws) C → Triple 𝓤 (C #diagnosis·cursor-at) (Over 𝓤 H A mem run) → Triple 𝓤 (C #diagnosis·read-fault) (Read 𝓤 H A mem run)
       → Walks 𝓤 H A read-at.ended stayed (WpFn 𝓤 H C Λ code.function) (read-at.clauses 𝓤 H A mem run)
   read-at-walks C Λ fm known-over known-read = walked 𝓤 H A read-at.ended stayed (read-at.clauses 𝓤 H A mem run) (WpFn 𝓤 H C Λ code.function) (λ κs. (slice-vals, (uint-vals w64, tt))) (λ κs. (shr-slice-tells (named 0) (κs .0) u8, (uint-tells w64, tt)))
       (λ κs qs bounds a g are. via 𝓤 _ (fst∗ 𝓤 _ (emp 𝓤)) (walk 𝓤 H A W mem run (κs .0) (qs .0) (a .0) (a .1 .0) (are .1 .0 .1) C Λ fm known-over known-read (are .0)))
 
 read-at-meets : {M : Type 1} (𝓤 : URA M) (H : Heap 𝓤) (A : Atoms 𝓤) (W : Given 𝓤 H A) (mem : Memory → SProp 𝓤) (run : Routine → Fun 𝓤) (𝓣 : Tables 𝓤 H)
-    → Triple 𝓤 (𝓣 .C #diagnosis·over) (Over 𝓤 H A mem run) → Triple 𝓤 (𝓣 .C #diagnosis·read) (Read 𝓤 H A mem run)
+    → Triple 𝓤 (𝓣 .C #diagnosis·cursor-at) (Over 𝓤 H A mem run) → Triple 𝓤 (𝓣 .C #diagnosis·read-fault) (Read 𝓤 H A mem run)
     → Meets 𝓤 H A read-at.signature (WpFn 𝓤 H (𝓣 .C) (𝓣 .Λ) code.function) (read-at.spec 𝓤 H A mem run)
 read-at-meets 𝓤 H A W mem run 𝓣 known-over known-read = walk-meets 𝓤 H A read-at.ended stayed W (goes-none-slice 𝓤 H A W 1 (0 ∷ []) tt (plain (λ _. u8)) yes, (goes-none 𝓤 H A W 1 (λ _. usize) yes (λ κs x f. refl), tt)) (read-at.clauses 𝓤 H A mem run) (WpFn 𝓤 H (𝓣 .C) (𝓣 .Λ) code.function) (WpFn-mono 𝓤 H (W .laws) 𝓣 code.function)
     (read-at-walks 𝓤 H A W mem run (𝓣 .C) (𝓣 .Λ) (fmOf 𝓤 H (W .laws) 𝓣) known-over known-read)
 
-pub read-at-spec : {M : Type 1} → stated.statement M
+pub read-fault-at-spec : {M : Type 1} → stated.statement M
 unfolding code.routine tablesOf
-read-at-spec 𝓤 H 𝓜 𝓖 𝓡 =
+read-fault-at-spec 𝓤 H 𝓜 𝓖 𝓡 =
     entered 𝓤 H (tripleOf 𝓤 H (𝓖 .A) read-at.signature (read-at.spec 𝓤 H (𝓖 .A) (𝓜 .mem) (𝓡 .run)))
-    (tables 𝓤 H 𝓜 𝓡 code.env .C) (tables 𝓤 H 𝓜 𝓡 code.env .Λ) #diagnosis·read-at code.function (code.unfolded 𝓤 H 𝓜 𝓡)
+    (tables 𝓤 H 𝓜 𝓡 code.env .C) (tables 𝓤 H 𝓜 𝓡 code.env .Λ) #diagnosis·read-fault-at code.function (code.unfolded 𝓤 H 𝓜 𝓡)
     (read-at-meets 𝓤 H (𝓖 .A) (givenOf 𝓤 H 𝓜 𝓖) (𝓜 .mem) (𝓡 .run) (tablesOf 𝓤 H 𝓜 (tables 𝓤 H 𝓜 𝓡 code.env))
-    (cited 𝓤 H (Over 𝓤 H (𝓖 .A) (𝓜 .mem) (𝓡 .run)) 𝓜 𝓡 code.env #diagnosis·over over-def.routine code.calls-diagnosis·over (over-thm.met 𝓤 H 𝓜 𝓖 𝓡))
-    (cited 𝓤 H (Read 𝓤 H (𝓖 .A) (𝓜 .mem) (𝓡 .run)) 𝓜 𝓡 code.env #diagnosis·read read-def.routine code.calls-diagnosis·read (read-thm.met 𝓤 H 𝓜 𝓖 𝓡)))
+    (cited 𝓤 H (Over 𝓤 H (𝓖 .A) (𝓜 .mem) (𝓡 .run)) 𝓜 𝓡 code.env #diagnosis·cursor-at over-def.routine code.calls-diagnosis·cursor-at (over-thm.met 𝓤 H 𝓜 𝓖 𝓡))
+    (cited 𝓤 H (Read 𝓤 H (𝓖 .A) (𝓜 .mem) (𝓡 .run)) 𝓜 𝓡 code.env #diagnosis·read-fault read-def.routine code.calls-diagnosis·read-fault (read-thm.met 𝓤 H 𝓜 𝓖 𝓡)))

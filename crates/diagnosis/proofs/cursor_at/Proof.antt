@@ -1,4 +1,4 @@
--- `diagnosis::over` meets its contract: a walk of its MIR, by hand. A `Cursor` is made of the slice and the number passed, in the result's local.
+-- `diagnosis::cursor_at` meets its contract: a walk of its MIR, by hand. A `Cursor` is made of the slice and the number passed, in the result's local.
 -- A `&[u8]` is Copy, so what it owns is had twice: once for `recording` at exit, and once inside the result, beside the facts of `place`.
 -- Assumes nothing.
 use mathlib.Core.Path.{refl}
@@ -37,12 +37,12 @@ use denote.Exit.{yes}
 use Rattle.diagnosis.specs.declared.Cursor.{Cursor}
 use Rattle.diagnosis.proofs.Cursor as T
 use Rattle.diagnosis.proofs.Cursor.Laws as T′
-use Rattle.diagnosis.proofs.over.Key.{name as #diagnosis·over}
-use Rattle.diagnosis.proofs.over as over
-use Rattle.diagnosis.proofs.over.Statement as stated
-use Rattle.diagnosis.proofs.over.Code as code
+use Rattle.diagnosis.proofs.cursor_at.Key.{name as #diagnosis·cursor-at}
+use Rattle.diagnosis.proofs.cursor_at as cursor-at
+use Rattle.diagnosis.proofs.cursor_at.Statement as stated
+use Rattle.diagnosis.proofs.cursor_at.Code as code
 
-abbrev stayed : Stays (over.ended .signature .params) (over.ended .kept)
+abbrev stayed : Stays (cursor-at.ended .signature .params) (cursor-at.ended .kept)
 stayed = (stay-none-slice (0 ∷ []) tt (plain (λ _. u8)) yes, (stay-none (λ _. usize) yes, tt))
 
 module _ {M : Type 1} (𝓤 : URA M) (H : Heap 𝓤) (A : Atoms 𝓤) (W : Given 𝓤 H A) (mem : Memory → SProp 𝓤) (run : Routine → Fun 𝓤) (κ : Lft) (q : Share) (s : RefT (List ℕ)) (place : ℕ) (fits : place < 2 ^ 64) where
@@ -56,44 +56,44 @@ module _ {M : Type 1} (𝓤 : URA M) (H : Heap 𝓤) (A : Atoms 𝓤) (W : Given
   abbrev made : Cursor
   made = record { recording = s; place = place }
 
-  abbrev at : Vals over.signature (κ, tt)
+  abbrev at : Vals cursor-at.signature (κ, tt)
   at = (v ∷ [], (vint w64 place ∷ [], tt))
 
   abbrev Post : Val → SProp 𝓤
-  Post = walkOf 𝓤 H A over.ended stayed (over.clauses 𝓤 H A mem run) .post (((κ, tt), (q, tt), tt, (s, (place, tt)), at), tt)
+  Post = walkOf 𝓤 H A cursor-at.ended stayed (cursor-at.clauses 𝓤 H A mem run) .post (((κ, tt), (q, tt), tt, (s, (place, tt)), at), tt)
 
   abbrev Own : Fml
   Own = ShrSlice (named 0) κ u8 .own s (v ∷ [])
 
-  exits : ent 𝓤 (onEntry 𝓤 H A over.signature (κ, tt) (q, tt) (s, (place, tt)) at) (Post (T′.lowered made))
+  exits : ent 𝓤 (onEntry 𝓤 H A cursor-at.signature (κ, tt) (q, tt) (s, (place, tt)) at) (Post (T′.lowered made))
   exits =
       qed W ((‵ (flft κ q) ⊛ ‵ ftrue) ∷ ‵ (owns (ShrSlice (named 0) κ u8 ∷ usize ∷ []) (s, (place, tt)) at) ∷ []) ∵
-      suffices ! _ (ends-at 𝓤 H A over.ended stayed (over.clauses 𝓤 H A mem run) W (((κ, tt), (q, tt), tt, (s, (place, tt)), at), tt) (T′.lowered made) made (tt, (tt, tt)) (tt, (tt, tt))) $ says ! (refl, refl) $
+      suffices ! _ (ends-at 𝓤 H A cursor-at.ended stayed (cursor-at.clauses 𝓤 H A mem run) W (((κ, tt), (q, tt), tt, (s, (place, tt)), at), tt) (T′.lowered made) made (tt, (tt, tt)) (tt, (tt, tt))) $ says ! (refl, refl) $
       frame ! $ fsplit ! $ use1 W (‵ Own ⊛ ‵ Own) (shr-slice-copy 𝓤 H A W (named 0) κ u8 .twice s (v ∷ [])) $ split ! $ move ! (0 ∷ 2 ∷ []) $ fjoin ! $ frame ! $
       -- [what recording owns]: what the fields own together, of it and of at's facts, is what the struct owns
       nothing ! $ owned ! usize (Is usize) (uint-makes 𝓤 H A W w64) place _ (refl, fits) $ fjoin ! $ move ! (1 ∷ 0 ∷ []) $ fjoin ! $ by ! (own-shut 𝓤 H A W (T.the-type α) (T′.the-laws α) (s, (place, tt)))
 
   module _ (C : Calls 𝓤 H) (Λ : Loops 𝓤 H) where
-    walk : Is (ShrSlice (named 0) κ u8) s (v ∷ []) → ent 𝓤 (onEntry 𝓤 H A over.signature (κ, tt) (q, tt) (s, (place, tt)) at) (WpFn 𝓤 H C Λ code.function (v ∷ vint w64 place ∷ []) Post)
+    walk : Is (ShrSlice (named 0) κ u8) s (v ∷ []) → ent 𝓤 (onEntry 𝓤 H A cursor-at.signature (κ, tt) (q, tt) (s, (place, tt)) at) (WpFn 𝓤 H C Λ code.function (v ∷ vint w64 place ∷ []) Post)
     walk p =
         let typed = shr-slice-lawful 𝓤 H A W (named 0) κ u8 .typed s (v ∷ []) p .0 in
-        qed W (raw (onEntry 𝓤 H A over.signature (κ, tt) (q, tt) (s, (place, tt)) at) ∷ []) ∵ enter ! C Λ code.function (v ∷ vint w64 place ∷ []) _ $
+        qed W (raw (onEntry 𝓤 H A cursor-at.signature (κ, tt) (q, tt) (s, (place, tt)) at) ∷ []) ∵ enter ! C Λ code.function (v ∷ vint w64 place ∷ []) _ $
         alloc1 ! (λ l₀. alloc1 ! (λ l₁. alloc1 ! (λ l₂. alloc0 ! $ params1 ! $ pass1 ! (init ! 2 refl typed) $ pass1 ! (init ! 0 refl (tt, record { fits = fits })) $ pass0 ! $
         assigns ! (agg ! (and-then ! (load ! (from ! (stop !)) (look ! 2 refl)) (and-then ! (load ! (from ! (stop !)) (look ! 0 refl)) (no-more !)))) (from ! (stop !)) (init ! 4 refl (tt, (typed .1, (record { fits = fits }, tt)))) $
         returns ! (look ! 4 refl) $ forget ! 0 refl $ forget ! 2 refl $ forget ! 4 refl $ move ! (4 ∷ 5 ∷ []) $ free1 ! $ move ! (2 ∷ 3 ∷ []) $ free1 ! $ free1 ! $ free0 ! $ by ! exits)))
 
 module _ {M : Type 1} (𝓤 : URA M) (H : Heap 𝓤) (A : Atoms 𝓤) (W : Given 𝓤 H A) (mem : Memory → SProp 𝓤) (run : Routine → Fun 𝓤) where
-  over-walks : (C : Calls 𝓤 H) (Λ : Loops 𝓤 H) → Walks 𝓤 H A over.ended stayed (WpFn 𝓤 H C Λ code.function) (over.clauses 𝓤 H A mem run)
-  over-walks C Λ = walked 𝓤 H A over.ended stayed (over.clauses 𝓤 H A mem run) (WpFn 𝓤 H C Λ code.function) (λ κs. (slice-vals, (uint-vals w64, tt))) (λ κs. (shr-slice-tells (named 0) (κs .0) u8, (uint-tells w64, tt)))
+  cursor-at-walks : (C : Calls 𝓤 H) (Λ : Loops 𝓤 H) → Walks 𝓤 H A cursor-at.ended stayed (WpFn 𝓤 H C Λ code.function) (cursor-at.clauses 𝓤 H A mem run)
+  cursor-at-walks C Λ = walked 𝓤 H A cursor-at.ended stayed (cursor-at.clauses 𝓤 H A mem run) (WpFn 𝓤 H C Λ code.function) (λ κs. (slice-vals, (uint-vals w64, tt))) (λ κs. (shr-slice-tells (named 0) (κs .0) u8, (uint-tells w64, tt)))
       (λ κs qs bounds a g are. via 𝓤 _ (fst∗ 𝓤 _ (emp 𝓤)) (walk 𝓤 H A W mem run (κs .0) (qs .0) (a .0) (a .1 .0) (are .1 .0 .1) C Λ (are .0)))
 
-over-meets : {M : Type 1} (𝓤 : URA M) (H : Heap 𝓤) (A : Atoms 𝓤) → Given 𝓤 H A → (mem : Memory → SProp 𝓤) (run : Routine → Fun 𝓤) (𝓣 : Tables 𝓤 H)
-    → Meets 𝓤 H A over.signature (WpFn 𝓤 H (𝓣 .C) (𝓣 .Λ) code.function) (over.spec 𝓤 H A mem run)
-over-meets 𝓤 H A W mem run 𝓣 = walk-meets 𝓤 H A over.ended stayed W (goes-none-slice 𝓤 H A W 1 (0 ∷ []) tt (plain (λ _. u8)) yes, (goes-none 𝓤 H A W 1 (λ _. usize) yes (λ κs x f. refl), tt)) (over.clauses 𝓤 H A mem run) (WpFn 𝓤 H (𝓣 .C) (𝓣 .Λ) code.function) (WpFn-mono 𝓤 H (W .laws) 𝓣 code.function) (over-walks 𝓤 H A W mem run (𝓣 .C) (𝓣 .Λ))
+cursor-at-meets : {M : Type 1} (𝓤 : URA M) (H : Heap 𝓤) (A : Atoms 𝓤) → Given 𝓤 H A → (mem : Memory → SProp 𝓤) (run : Routine → Fun 𝓤) (𝓣 : Tables 𝓤 H)
+    → Meets 𝓤 H A cursor-at.signature (WpFn 𝓤 H (𝓣 .C) (𝓣 .Λ) code.function) (cursor-at.spec 𝓤 H A mem run)
+cursor-at-meets 𝓤 H A W mem run 𝓣 = walk-meets 𝓤 H A cursor-at.ended stayed W (goes-none-slice 𝓤 H A W 1 (0 ∷ []) tt (plain (λ _. u8)) yes, (goes-none 𝓤 H A W 1 (λ _. usize) yes (λ κs x f. refl), tt)) (cursor-at.clauses 𝓤 H A mem run) (WpFn 𝓤 H (𝓣 .C) (𝓣 .Λ) code.function) (WpFn-mono 𝓤 H (W .laws) 𝓣 code.function) (cursor-at-walks 𝓤 H A W mem run (𝓣 .C) (𝓣 .Λ))
 
-pub over-spec : {M : Type 1} → stated.statement M
+pub cursor-at-spec : {M : Type 1} → stated.statement M
 unfolding code.routine tablesOf
-over-spec 𝓤 H 𝓜 𝓖 𝓡 =
-    entered 𝓤 H (tripleOf 𝓤 H (𝓖 .A) over.signature (over.spec 𝓤 H (𝓖 .A) (𝓜 .mem) (𝓡 .run)))
-    (tables 𝓤 H 𝓜 𝓡 code.env .C) (tables 𝓤 H 𝓜 𝓡 code.env .Λ) #diagnosis·over code.function (code.unfolded 𝓤 H 𝓜 𝓡)
-    (over-meets 𝓤 H (𝓖 .A) (givenOf 𝓤 H 𝓜 𝓖) (𝓜 .mem) (𝓡 .run) (tablesOf 𝓤 H 𝓜 (tables 𝓤 H 𝓜 𝓡 code.env)))
+cursor-at-spec 𝓤 H 𝓜 𝓖 𝓡 =
+    entered 𝓤 H (tripleOf 𝓤 H (𝓖 .A) cursor-at.signature (cursor-at.spec 𝓤 H (𝓖 .A) (𝓜 .mem) (𝓡 .run)))
+    (tables 𝓤 H 𝓜 𝓡 code.env .C) (tables 𝓤 H 𝓜 𝓡 code.env .Λ) #diagnosis·cursor-at code.function (code.unfolded 𝓤 H 𝓜 𝓡)
+    (cursor-at-meets 𝓤 H (𝓖 .A) (givenOf 𝓤 H 𝓜 𝓖) (𝓜 .mem) (𝓡 .run) (tablesOf 𝓤 H 𝓜 (tables 𝓤 H 𝓜 𝓡 code.env)))

@@ -1,4 +1,4 @@
--- `diagnosis::read` meets its contract: a walk of its MIR, by hand. The struct is taken apart, and `next_fault` is called on the slice and the number. All that the proof knows of `next_fault` is that it meets its contract.
+-- `diagnosis::read_fault` meets its contract: a walk of its MIR, by hand. The struct is taken apart, and `next_fault` is called on the slice and the number. All that the proof knows of `next_fault` is that it meets its contract.
 -- The struct is Copy: what it owns is had twice, one copy is kept whole for the exit, and of the other what recording owns goes to the callee, beside the lifetime's token, which comes back.
 -- Assumes nothing.
 use mathlib.Core.Path.{_≡_, refl}
@@ -53,10 +53,10 @@ use Rattle.diagnosis.proofs.next_fault as step
 use Rattle.diagnosis.proofs.next_fault.Symbol as step-def
 use Rattle.diagnosis.proofs.next_fault.Symbol.{name as #diagnosis·next-fault}
 use Rattle.diagnosis.proofs.next_fault.Met as step-thm
-use Rattle.diagnosis.proofs.read.Key.{name as #diagnosis·read}
-use Rattle.diagnosis.proofs.read as next
-use Rattle.diagnosis.proofs.read.Statement as stated
-use Rattle.diagnosis.proofs.read.Code as code
+use Rattle.diagnosis.proofs.read_fault.Key.{name as #diagnosis·read-fault}
+use Rattle.diagnosis.proofs.read_fault as next
+use Rattle.diagnosis.proofs.read_fault.Statement as stated
+use Rattle.diagnosis.proofs.read_fault.Code as code
 
 -- the struct's type, over the signature's lifetimes
 abbrev B : Lfts 1 → RattleType
@@ -156,10 +156,10 @@ next-meets : {M : Type 1} (𝓤 : URA M) (H : Heap 𝓤) (A : Atoms 𝓤) (W : G
 next-meets 𝓤 H A W mem run 𝓣 known-step = walk-meets 𝓤 H A next.ended stayed W (goes-none 𝓤 H A W 1 B yes (λ κs x f. refl), tt) (next.clauses 𝓤 H A mem run) (WpFn 𝓤 H (𝓣 .C) (𝓣 .Λ) code.function) (WpFn-mono 𝓤 H (W .laws) 𝓣 code.function)
     (next-walks 𝓤 H A W mem run (𝓣 .C) (𝓣 .Λ) (fmOf 𝓤 H (W .laws) 𝓣) known-step)
 
-pub read-spec : {M : Type 1} → stated.statement M
+pub read-fault-spec : {M : Type 1} → stated.statement M
 unfolding code.routine tablesOf
-read-spec 𝓤 H 𝓜 𝓖 𝓡 =
+read-fault-spec 𝓤 H 𝓜 𝓖 𝓡 =
     entered 𝓤 H (tripleOf 𝓤 H (𝓖 .A) next.signature (next.spec 𝓤 H (𝓖 .A) (𝓜 .mem) (𝓡 .run)))
-    (tables 𝓤 H 𝓜 𝓡 code.env .C) (tables 𝓤 H 𝓜 𝓡 code.env .Λ) #diagnosis·read code.function (code.unfolded 𝓤 H 𝓜 𝓡)
+    (tables 𝓤 H 𝓜 𝓡 code.env .C) (tables 𝓤 H 𝓜 𝓡 code.env .Λ) #diagnosis·read-fault code.function (code.unfolded 𝓤 H 𝓜 𝓡)
     (next-meets 𝓤 H (𝓖 .A) (givenOf 𝓤 H 𝓜 𝓖) (𝓜 .mem) (𝓡 .run) (tablesOf 𝓤 H 𝓜 (tables 𝓤 H 𝓜 𝓡 code.env))
     (cited 𝓤 H (StepAt 𝓤 H (𝓖 .A) (𝓜 .mem) (𝓡 .run)) 𝓜 𝓡 code.env #diagnosis·next-fault step-def.routine code.calls-diagnosis·next-fault (step-thm.met 𝓤 H 𝓜 𝓖 𝓡)))
