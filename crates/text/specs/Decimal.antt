@@ -9,6 +9,6 @@ digitsWithin zero n = []
 digitsWithin (suc most) zero = []
 digitsWithin (suc most) (suc n) = digitsWithin most (suc n / 10) ++ ((code "0" + suc n % 10) ∷ [])
 
--- the digits before the last one, which are no more than n, and the last one
+-- the digits before the last one, for which n is bound enough, and the last one
 unfoldable pub decimal : ℕ → List ℕ
 decimal n = digitsWithin n (n / 10) ++ ((code "0" + n % 10) ∷ [])

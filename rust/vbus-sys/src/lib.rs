@@ -77,9 +77,9 @@ pub struct Fault {
     pub has_byte: bool,
     /// The byte at the offset.
     pub byte: u8,
-    /// Whether a checksum stands at the offset, and is wrong.
+    /// Whether a byte is wanted: exactly for a wrong checksum's verdicts, 4 and 6.
     pub has_wanted: bool,
-    /// The checksum that would have been right there.
+    /// The checksum that would have been right at the offset.
     pub wanted: u8,
 }
 

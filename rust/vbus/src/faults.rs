@@ -21,7 +21,7 @@ pub struct FaultEntry {
     pub fault: Fault,
     /// The byte found at the offset; `None` if the input ended first.
     pub byte: Option<u8>,
-    /// The checksum that would have been right at the offset; `None` if none is wrong there.
+    /// The checksum that would have been right at the offset; for a verdict on a checksum only.
     pub wanted: Option<u8>,
 }
 

@@ -22,7 +22,7 @@
 //! What arrives in chunks, such as from a serial port, is read with a [`Receiver`], or with a
 //! `RecordReader` over anything that implements `std::io::Read`.
 //!
-//! Why a recording gave fewer records than expected is told by [`faults`].
+//! Why a 0xAA, with which every stream begins, gave no record is told by [`faults`].
 //!
 //! The archive is taken from the folder that the environment variable `VBUS_LIB_DIR` names at
 //! build time, else from `target/staticlib` at the repository's top, where `./build vbus` puts it.
