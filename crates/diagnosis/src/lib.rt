@@ -3,6 +3,7 @@ ghost use mathlib.Core.Path.{_≡_};
 ghost use lib.ListN.{getD};
 ghost use Rattle.diagnosis.specs.Fault.{hasWanted, wantedAt, faultOf, nextFault};
 ghost use Rattle.diagnosis.specs.Stage.{SaidOf, SumsAt};
+
 // A sync byte that gave no record, and why: its place, the verdict on the stretch from there on with its offset, the byte that stands
 // at the offset and, for V4 and V6, the byte that would have been right. Without a fault all is zero.
 #[repr(C)]
