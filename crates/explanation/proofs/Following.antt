@@ -7,6 +7,8 @@ use mathlib.Core.List.{List, [], _++_, append-assoc}
 use lib.ListN.{length, length-append}
 use Rattle.diagnosis.specs.Fault.{faultsAfter, nextFault}
 use Rattle.diagnosis.specs.declared.Fault.{Fault}
+use Rattle.diagnosis.specs.Reason.{Asked}
+use Rattle.diagnosis.proofs.Exactly.{asked-faults}
 use Rattle.diagnosis.proofs.Faults.{found-at, none-after}
 use Rattle.explanation.specs.Line.{lineOf}
 use Rattle.explanation.specs.Explanation.{linesOf, explanationOf}
@@ -42,3 +44,9 @@ module _ (s : List ℕ) (start : ℕ) (f : Fault) (next : Next s start f) (done 
 
   pub next-fits : length done + length (lineOf f) ≤ length (explanationOf s)
   next-fits = omega (arith, ap length next-done, length-append (done ++ lineOf f) more, length-append done (lineOf f))
+
+-- ── the explanation, by the answers
+
+-- a line for each fault that is told, asked from the start until there is none
+pub explanation-asked : (s : List ℕ) (fs : List Fault) → Asked s 0 fs → explanationOf s ≡ linesOf fs
+explanation-asked s fs asked = ap linesOf (sym (asked-faults s 0 fs asked))

@@ -14,6 +14,7 @@ use Rattle.text.specs.Ascii.{ascii}
 use Rattle.text.specs.Decimal.{digitsWithin, decimal}
 use Rattle.diagnosis.specs.Fault.{wantedAt, faultsFrom}
 use Rattle.diagnosis.specs.declared.Fault.{Fault}
+use Rattle.listing.proofs.Samples.{one-more}
 use Rattle.explanation.specs.Line.{numbersText, byteText, isCutOff, remarkText, restText, lineOf, lineWritten, lineAfter}
 use Rattle.explanation.specs.Explanation.{linesOf, explanationOf, outputOf, explainRefusal, explainedOf}
 
@@ -56,14 +57,9 @@ empty : outputOf [] ≡ []
 unfolding linesOf faultsFrom choose
 empty = refl
 
--- 65,536 bytes are explained, and one more is too long
-most : (s : List ℕ) → length s ≡ 65536 → outputOf s ≡ explanationOf s
-unfolding choose
-most s sized = rw sized
-
-one-more : (s : List ℕ) → length s ≡ 65537 → outputOf s ≡ ascii "too long\n"
-unfolding choose
-one-more s sized = rw sized
+-- one byte more than the lister's 65,536 is too long here too
+too-long : (s : List ℕ) → length s ≡ 65537 → outputOf s ≡ ascii "too long\n"
+too-long s sized = one-more s (explanationOf s) sized
 
 -- an output of 2,621,440 bytes has room for all, and a shorter one is refused
 room-enough : (s : List ℕ) → explainedOf s 2621440 ≡ record { number = 0; length = length (outputOf s) }

@@ -13,7 +13,7 @@ use Rattle.record.specs.Record.{Record, recordOf, commandIn, payloadIn, unframe
 use Rattle.recording.specs.Recording.{deliveriesFrom}
 use Rattle.text.specs.Ascii.{ascii}
 use Rattle.listing.specs.Line.{hexBytes, hexCommand, hexPayload, hexHead, lineOf, lineWritten, lineAfter}
-use Rattle.listing.specs.Listing.{linesOf, listingOf, outputOf, listRefusal, listedOf}
+use Rattle.listing.specs.Listing.{linesOf, listingOf, limited, outputOf, listRefusal, listedOf}
 
 -- AA 11 44 10 66 10 00 02 01 21 07 04 0F 00 00 65
 p1 : List ℕ
@@ -33,14 +33,17 @@ example : outputOf (p1 ++ (d1 ++ t2))
 unfolding p1 d1 t2 linesOf lineOf hexHead hexPayload hexCommand hexBytes deliveriesFrom recordOf commandIn payloadIn unframed withTopBits validationFrom streamLength kindOf choose headerLength frameWidth frameCount faultAt breach ruleAt headerRule frameRule checksumFrom
 example = refl
 
--- 65,536 bytes are listed, and one more is too long
-most : (s : List ℕ) → length s ≡ 65536 → outputOf s ≡ listingOf s
+-- of 65,536 bytes the text is given, and one more is too long
+most : (s text : List ℕ) → length s ≡ 65536 → limited s text ≡ text
 unfolding choose
-most s sized = rw sized
+most s text sized = rw sized
 
-one-more : (s : List ℕ) → length s ≡ 65537 → outputOf s ≡ ascii "too long\n"
+pub one-more : (s text : List ℕ) → length s ≡ 65537 → limited s text ≡ ascii "too long\n"
 unfolding choose
-one-more s sized = rw sized
+one-more s text sized = rw sized
+
+too-long : (s : List ℕ) → length s ≡ 65537 → outputOf s ≡ ascii "too long\n"
+too-long s sized = one-more s (listingOf s) sized
 
 -- an output of 147,456 bytes has room for all, and a shorter one is refused
 room-enough : (s : List ℕ) → listedOf s 147456 ≡ record { number = 0; length = length (outputOf s) }
