@@ -98,7 +98,7 @@ class Recording:
     def __init__(self):
         self.bytes = bytearray()
         self.lines = []
-        self.places = set()  # where whole streams begin
+        self.positions = set()  # where whole streams begin
         self.told = {}  # of a damaged stream's place, what is told behind the place
         self.cuts = {}  # of a cut stream's place, how many bytes there are
         self.too_long = False  # that is all that is said then
@@ -106,7 +106,7 @@ class Recording:
     def stream(self, letter, destination, source, version, command, digits, payload, data):
         line = f"{letter} {destination:04X} {source:04X} {version:02X} {command:0{digits}X} {payload.hex().upper()}"
         self.lines.append(line.rstrip())
-        self.places.add(len(self.bytes))
+        self.positions.add(len(self.bytes))
         self.bytes += b"\xAA" + data
 
     def packet(self, destination, source, command, payload, unused=clear):
@@ -555,7 +555,7 @@ UNKNOWN = {"damage": sum(len(one(sample)) - 2 for sample in SAMPLES) + 10}
 def check_faults(name, recording):
     """Holds the reader's faults to what the writer knows, and to document 02: the reason must be true."""
     data, faults = bytes(recording.bytes), rules.faults(bytes(recording.bytes))
-    without_record = [at for at, byte in enumerate(data) if byte == 0xAA and at not in recording.places]
+    without_record = [at for at, byte in enumerate(data) if byte == 0xAA and at not in recording.positions]
     assert [fault[0] for fault in faults] == without_record, f"{name}: the reader's places aren't the writer's"
     told = [recording.told_at(place) for place in without_record]
     for fault, known in zip(faults, told):

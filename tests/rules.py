@@ -130,19 +130,19 @@ def encode(record, room):
 # ── a recording
 
 
-def places(s, start=0):
+def positions(s, start=0):
     return [k for k in range(start, len(s) + 1) if validate(s[k:])[0] == 0]
 
 
 def deliveries(s):
-    return [decode(s[k:]) for k in places(s)]
+    return [decode(s[k:]) for k in positions(s)]
 
 
 def next_record(s, start, room):
-    """number, and (place, length, record) or None"""
+    """number, and (position, length, record) or None"""
     if start > len(s):
         return 6, None
-    found = places(s, start)
+    found = positions(s, start)
     if not found:
         return 0, None
     rest = s[found[0] :]
@@ -234,13 +234,24 @@ def announced(s):
     return 16 if s[5] == DATAGRAM else 6
 
 
-def received(s):
-    """of each delivered record how many bytes were used by then, its stream's length and itself; and how many bytes are held at last"""
-    lengths = {k: validate(s[k:])[1] for k in places(s)}
+def received(s, first=0):
+    """of a receiver that has used `first` bytes and holds none: each record of s as (position, length, record), and how many bytes are held at last"""
     last = max((k for k in range(len(s)) if s[k] >= 0x80), default=-1)
     rest = s[last:] if last >= 0 and s[last] == 0xAA else b""
     held = len(rest) if len(rest) < announced(rest) else 0
-    return [(k + n, n, decode(s[k:])) for k, n in lengths.items()], held
+    return [(first + k, validate(s[k:])[1], decode(s[k:])) for k in positions(s)], held
+
+
+def receive(position, chunk, room):
+    """of a receiver that holds nothing: the number, how many bytes are used, and (position, length, record) or None; held then"""
+    if room < 508:
+        return 5, 0, None, 0
+    if position + len(chunk) > 2**64 - 1:
+        return 12, 0, None, 0
+    records, held = received(chunk, position)
+    if not records:
+        return 0, len(chunk), None, held
+    return 0, records[0][0] + records[0][1] - position, records[0], 0
 
 
 # ── sections of a block packet

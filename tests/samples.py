@@ -100,10 +100,10 @@ def value(name, text, number):
     ask("i", name, payload, number)
 
 
-def next_(name, text, start, room, place=None):
-    """`place` is where the first whole stream must be, or "none"; left out where the start is refused"""
+def next_(name, text, start, room, position=None):
+    """`position` is where the first whole stream must be, or "none"; left out where the start is refused"""
     s = bytes.fromhex(text)
-    assert place is None or (rules.places(s, start) + ["none"])[0] == place, (name, rules.places(s, start))
+    assert position is None or (rules.positions(s, start) + ["none"])[0] == position, (name, rules.positions(s, start))
     number, found = rules.next_record(s, start, room)
     if number:
         fields = ()
@@ -114,13 +114,26 @@ def next_(name, text, start, room, place=None):
     ask("n", name, s, number, *fields, "kept", first=start, second=room)
 
 
-def receive(name, text, held, *ends):
-    """byte after byte to a fresh receiver: the bytes held at last, and how many are used with each record"""
+def receive(name, text, held, *positions, reset=None):
+    """byte after byte to a fresh receiver, which may be reset when so many are used: the bytes held at last, and the position of each record"""
     s = bytes.fromhex(text)
-    records, kept = rules.received(s)
-    assert (tuple(used for used, _, _ in records), kept) == (ends, held), (name, records, kept)
-    fields = [field for used, length, record in records for field in (used, length, *told(record))]
-    ask("w", name, s, *fields, "held", held)
+    begin = reset or 0
+    later, kept = rules.received(s[begin:], begin)
+    records = rules.received(s[:begin])[0] + later
+    assert (tuple(position for position, _, _ in records), kept) == (positions, held), (name, records, kept)
+    fields = [field for position, length, record in records for field in (position, length, *told(record))]
+    # the program resets before a byte: behind the last one there is none
+    ask("w", name, s, *fields, "held", held, "position", len(s), first=len(s) if reset is None else reset)
+
+
+def receive_last(name, text, left, room, number, used):
+    """one chunk to a receiver that holds nothing and whose count is `left` below the largest 64-bit number"""
+    s = bytes.fromhex(text)
+    position = 2**64 - 1 - left
+    said, count, found, held = rules.receive(position, s, room)
+    assert (said, count) == (number, used), (name, said, count)
+    fields = () if found is None else (*found[:2], *told(found[2]))
+    ask("W", name, s, number, used, *fields, "held", held, "position", position + used, "kept", first=left, second=room)
 
 
 def normalize(name, text, room, number, same_as=""):
@@ -346,21 +359,37 @@ normalize("normalize-unused-room-77", unused, 77, 0, P1 + D1 + P3 + T4)
 normalize("normalize-unused-room-76", unused, 76, 5)
 
 receive("receive-empty", "", 0)
-receive("receive-P1", P1, 0, 16)
+receive("receive-P1", P1, 0, 0)
 receive("receive-P1-cut", P1[:-3], 15)
-receive("receive-AA-P1", "AA" + P1, 0, 17)
-receive("receive-P1-D1-T2", P1 + D1 + T2, 0, 16, 32, 49)
-receive("receive-damaged", damaged, 0, 16, 46)
-receive("receive-septet-10", P1_UNUSED, 0, 16)
-receive("receive-unused", unused, 0, 16, 49, 77, 94)
-receive("receive-T1-77", T1[:-2] + "77" + T1, 0, 16)
+receive("receive-AA-P1", "AA" + P1, 0, 1)
+receive("receive-P1-D1-T2", P1 + D1 + T2, 0, 0, 16, 32)
+receive("receive-damaged", damaged, 0, 0, 29)
+receive("receive-septet-10", P1_UNUSED, 0, 0)
+receive("receive-unused", unused, 0, 0, 33, 49, 77)
+receive("receive-T1-77", T1[:-2] + "77" + T1, 0, 8)
 receive("receive-high", "AA 10 20 FF 31 77 30 01 76", 0)
 receive("receive-version-11", "AA 10 20 31 77 11", 0)
 receive("receive-nine", P1[:26], 9)
 longest = rules.written(packet(PATTERN[:508])).hex()
-receive("receive-772", longest, 0, 772)
+receive("receive-772", longest, 0, 0)
 receive("receive-771", longest[:-2], 771)
-receive("receive-771-twice", longest[:-2] + longest, 0, 1543)
+receive("receive-771-twice", longest[:-2] + longest, 0, 771)
+receive("reset-within", P1 + D1 + T2, 0, 0, 32, reset=20)
+receive("reset-between", P1 + D1 + T2, 0, 0, 16, 32, reset=16)
+receive("reset-held", P1 + D1[:-3], 15, 0, reset=16)
+receive("reset-last", P1 + D1, 0, 0, reset=31)
+
+# A count of 2^64 - 1 less n, with chunks of n - 1, n and n + 1 bytes.
+for n, stream in ((0, ""), (1, ""), (8, T1), (16, P1), (17, T2), (772, longest)):
+    some = stream or n * "00"
+    receive_last(f"count-{n}-fits", some, n, 508, 0, n)
+    receive_last(f"count-{n}-past", some + "00", n, 508, 12, 0)
+    receive_last(f"count-{n}-room-first", some + "00", n, 507, 5, 0)
+    if n > 0:
+        receive_last(f"count-{n}-less", some[:-2], n, 508, 0, n - 1)
+receive_last("count-P1-T1", P1 + T1, 24, 508, 0, 16)
+receive_last("count-P1-T1-past", P1 + T1, 23, 508, 12, 0)
+receive_last("count-P1-D1", P1 + D1, 1000, 508, 0, 16)
 
 # Why there is no record. The first two are document 02's.
 T1_77 = T1[:-2] + "77"

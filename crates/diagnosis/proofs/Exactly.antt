@@ -17,7 +17,7 @@ use Rattle.recording.proofs.Deliveries.{Whole, whole-sync}
 use Rattle.recording.proofs.Nexts.{next-exactly}
 use Rattle.diagnosis.specs.declared.Fault.{Fault}
 use Rattle.diagnosis.specs.Fault.{isFault, faultOf, faultsFrom, faultsAfter, nextFault}
-use Rattle.diagnosis.specs.Reason.{Asked, ended, again, syncPlacesFrom, isIn, without, faultPlaces, deliveryPlaces}
+use Rattle.diagnosis.specs.Reason.{Asked, ended, again, syncPlacesFrom, isIn, without, faultPlaces, deliveryPositions}
 use Rattle.diagnosis.proofs.Faults.{fault-is, fault-sync, fault-not-whole, no-sync-no-fault, whole-no-fault, first-of, next-here, found-at, none-after}
 
 -- ── asked one after the other
@@ -59,7 +59,7 @@ module _ (s : List ℕ) (q : ℕ) where
 
 -- a fault is told of a place exactly if it holds a 0xAA and, given room for any payload, no record is delivered there
 pub fault-exactly : (s : List ℕ) (q room : ℕ) → q ≤ length s → 508 ≤ room
-    → ((nextFault s q .found ≡ true) × (nextFault s q .place ≡ q)) ↔ ((getD s q 0 ≡ 0xAA) × ((nextOf s q room .found ≡ true) × (nextOf s q room .place ≡ q) → ⊥))
+    → ((nextFault s q .found ≡ true) × (nextFault s q .place ≡ q)) ↔ ((getD s q 0 ≡ 0xAA) × ((nextOf s q room .found ≡ true) × (nextOf s q room .position ≡ q) → ⊥))
 fault-exactly s q room within fits =
     let delivered = next-exactly s q room within fits in (
       (λ told. let (sync, bad) = found-here s q told in (sync, λ record-there. bad (delivered .0 record-there))),
@@ -83,12 +83,12 @@ syncs-least q (byte ∷ rest) =
     let later = weaker q (syncPlacesFrom (suc q) rest) (syncs-least (suc q) rest) in
     choose-by (AtLeast q) _ (λ e. (omega arith, later)) (λ e. later)
 
-deliveries-least : (q : ℕ) (s : List ℕ) → AtLeast q (deliveryPlaces (deliveriesFrom q s))
+deliveries-least : (q : ℕ) (s : List ℕ) → AtLeast q (deliveryPositions (deliveriesFrom q s))
 unfolding deliveriesFrom
 deliveries-least q [] = tt
 deliveries-least q (byte ∷ rest) =
-    let later = weaker q (deliveryPlaces (deliveriesFrom (suc q) rest)) (deliveries-least (suc q) rest) in
-    choose-by (λ (ds : List Delivery). AtLeast q (deliveryPlaces ds)) _ (λ e. (omega arith, later)) (λ e. later)
+    let later = weaker q (deliveryPositions (deliveriesFrom (suc q) rest)) (deliveries-least (suc q) rest) in
+    choose-by (λ (ds : List Delivery). AtLeast q (deliveryPositions ds)) _ (λ e. (omega arith, later)) (λ e. later)
 
 not-in : (q : ℕ) (l : List ℕ) → AtLeast (suc q) l → isIn q l ≡ false
 not-in q [] a = refl
@@ -101,7 +101,7 @@ without-less q gone (x ∷ rest) a = rw (ne-eqb x q (λ e. omega (arith, a .0)),
 
 -- the places of the 0xAA that gave no record
 abbrev unanswered : ℕ → List ℕ → List ℕ
-unanswered q rest = without (deliveryPlaces (deliveriesFrom q rest)) (syncPlacesFrom q rest)
+unanswered q rest = without (deliveryPositions (deliveriesFrom q rest)) (syncPlacesFrom q rest)
 
 module _ (q byte : ℕ) (rest : List ℕ) where
   no-sync : (byte ≡ 0xAA → ⊥) → unanswered q (byte ∷ rest) ≡ unanswered (suc q) rest
@@ -112,7 +112,7 @@ module _ (q byte : ℕ) (rest : List ℕ) where
   unfolding deliveriesFrom syncPlacesFrom without choose
   whole-place sync w =
       rw (eq-eqb (validationOf (byte ∷ rest) .verdict) 0 w, eq-eqb byte 0xAA sync, eq-eqb q q refl)
-      (without-less q (deliveryPlaces (deliveriesFrom (suc q) rest)) (syncPlacesFrom (suc q) rest) (syncs-least (suc q) rest))
+      (without-less q (deliveryPositions (deliveriesFrom (suc q) rest)) (syncPlacesFrom (suc q) rest) (syncs-least (suc q) rest))
 
   fault-place : byte ≡ 0xAA → (Whole (byte ∷ rest) → ⊥) → unanswered q (byte ∷ rest) ≡ q ∷ unanswered (suc q) rest
   unfolding deliveriesFrom syncPlacesFrom without choose
@@ -143,5 +143,5 @@ places-from q (byte ∷ rest) =
     (λ other. ap faultPlaces (passed q byte rest (no-sync-no-fault t other)) ∙ later ∙ sym (no-sync q byte rest other))
 
 -- asked from the start until there is none, what is told stands at the places of the 0xAA, in order, but those of the deliveries
-pub faults-exactly : (s : List ℕ) (fs : List Fault) → Asked s 0 fs → faultPlaces fs ≡ without (deliveryPlaces (deliveriesFrom 0 s)) (syncPlacesFrom 0 s)
+pub faults-exactly : (s : List ℕ) (fs : List Fault) → Asked s 0 fs → faultPlaces fs ≡ without (deliveryPositions (deliveriesFrom 0 s)) (syncPlacesFrom 0 s)
 faults-exactly s fs asked = ap faultPlaces (asked-faults s 0 fs asked) ∙ places-from 0 s

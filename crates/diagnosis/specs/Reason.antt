@@ -65,11 +65,11 @@ unfoldable pub without : List ℕ → List ℕ → List ℕ
 without gone [] = []
 without gone (x ∷ rest) = choose (isIn x gone) (without gone rest) (x ∷ without gone rest)
 
--- the places of faults, and of deliveries
+-- the places of faults, and the positions of deliveries
 abbrev pub faultPlaces : List Fault → List ℕ
 faultPlaces [] = []
 faultPlaces (f ∷ rest) = f .place ∷ faultPlaces rest
 
-abbrev pub deliveryPlaces : List Delivery → List ℕ
-deliveryPlaces [] = []
-deliveryPlaces (d ∷ rest) = d .place ∷ deliveryPlaces rest
+abbrev pub deliveryPositions : List Delivery → List ℕ
+deliveryPositions [] = []
+deliveryPositions (d ∷ rest) = d .position ∷ deliveryPositions rest

@@ -23,12 +23,12 @@ use Rattle.listing.specs.Listing.{linesOf, listingOf}
 abbrev pub recordIn : Found → List ℕ → Record
 recordIn a buffer = record { header = a .header; payload = take (a .«payload_length») buffer }
 
--- its line comes next, and the next place lies behind its stream
+-- its line comes next, and the next start lies behind its stream
 pub record Next (s : List ℕ) (start : ℕ) (a : Found) (buffer : List ℕ) : Type 0 where
   pub small : a .«payload_length» ≤ 508
-  pub on : start < a .place + a .length
-  pub inside : a .place + a .length ≤ length s
-  pub rest : listingOf (drop start s) ≡ lineOf (recordIn a buffer) ++ listingOf (drop (a .place + a .length) s)
+  pub on : start < a .position + a .length
+  pub inside : a .position + a .length ≤ length s
+  pub rest : listingOf (drop start s) ≡ lineOf (recordIn a buffer) ++ listingOf (drop (a .position + a .length) s)
 
 -- what an answer says of the listing from the starting place on
 abbrev pub Lists : List ℕ → ℕ → Found → List ℕ → Type 0
@@ -76,7 +76,7 @@ module _ (s : List ℕ) (start : ℕ) (a : Found) (buffer : List ℕ) (next : Ne
   line = lineOf (recordIn a buffer)
 
   abbrev more : List ℕ
-  more = listingOf (drop (a .place + a .length) s)
+  more = listingOf (drop (a .position + a .length) s)
 
   pub next-done : (done ++ line) ++ more ≡ listingOf s
   next-done = append-assoc done line more ∙ ap (λ (l : List ℕ). done ++ l) (sym (next .rest)) ∙ so-far

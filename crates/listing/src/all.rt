@@ -18,7 +18,7 @@ pub fn lines(input: &[u8], out: &mut [u8]) -> usize
         let mut payload = [0u8; 508]; // no record's payload is longer
         let found = recording::next(input, at, &mut payload);
         if found.found {
-            let next = found.place + found.length;
+            let next = found.position as usize + found.length;
             let size = found.payload_length;
             let written = line(found.header, &payload[0..size], &mut out[to..]);
             to += written.length;

@@ -1,19 +1,21 @@
--- Laws of the held bytes: with one more, and what is kept of them.
-use Prim.Native.Nat.{ℕ, _<_, _≤_}
+-- Laws of the held bytes: with one more, what is kept of them, and what a state holds.
+use Prim.Native.Nat.{ℕ, _+_, _<_, _≤_}
 use native.Mathlib.Omega.{arith}
 use native.Mathlib.Decide.{decLt, ℕ-discrete}
-use mathlib.Core.Path.{_≡_, sym, _∙_}
-use mathlib.Core.Bool.{and-false}
+use mathlib.Core.Path.{_≡_, sym, ap, _∙_}
+use mathlib.Core.Bool.{Bool, and-false}
 use mathlib.Core.Logic.{dite}
 use mathlib.Core.List.{List, [], _∷_, _++_}
 use borrow.Author.Tests.{eq-eqb, ne-eqb, lt-ltb, le-ltb, le-leb, lt-leb}
 use lib.Dec.{ltb}
-use lib.ListN.{length}
+use lib.ListN.{length, take, length-append, length-take}
 use Rattle.basics.specs.Choice.{choose}
 use Rattle.basics.proofs.Choice.{choose-by}
 use Rattle.stream.specs.Layout.{streamLength}
 use Rattle.stream.proofs.Lengths.{length-early}
 use Rattle.receiver.specs.Holding.{extended, isUnfinished, kept}
+use Rattle.receiver.specs.Receive.{heldIn}
+use Rattle.receiver.specs.declared.Receiver.{Receiver}
 
 -- ── the held bytes with one more
 
@@ -51,6 +53,10 @@ extended-by P h byte begins ends adds =
     (λ there. rw (extended-low h byte low (omega arith)) (adds low (omega arith))))
     (λ high. rw (extended-high h byte other (omega arith)) ends))
 
+pub length-extended : (h : List ℕ) (byte : ℕ) → length (extended h byte) ≤ length h + 1
+length-extended h byte =
+    extended-by (λ (s : List ℕ). length s ≤ length h + 1) h byte (λ e. omega arith) (omega arith) (λ low there. omega (arith, length-append h (byte ∷ [])))
+
 -- ── what is kept
 
 module _ (s : List ℕ) where
@@ -86,3 +92,37 @@ kept-unfinished s =
 pub kept-by : (P : List ℕ → Type 0) (s : List ℕ) → P s → P [] → P (kept s)
 unfolding kept
 kept-by P s whole nothing = choose-by P (isUnfinished s) (λ e. whole) (λ e. nothing)
+
+-- ── what a state holds
+
+module _ (receiver : Receiver) (memory : List ℕ) where
+  pub held-counted : receiver .held ≤ receiver .position → heldIn receiver memory ≡ kept (take (receiver .held) memory)
+  unfolding heldIn choose
+  held-counted counted = ap (λ (b : Bool). choose b (kept (take (receiver .held) memory)) []) (le-leb (receiver .held) _ (omega arith))
+
+  -- more bytes than were used
+  pub held-uncounted : receiver .position < receiver .held → heldIn receiver memory ≡ []
+  unfolding heldIn choose
+  held-uncounted more = ap (λ (b : Bool). choose b (kept (take (receiver .held) memory)) []) (lt-leb (receiver .held) _ (omega arith))
+
+  pub held-zero : receiver .held ≡ 0 → heldIn receiver memory ≡ []
+  held-zero none = held-counted (omega arith) ∙ ap (λ (n : ℕ). kept (take n memory)) none ∙ kept-early [] (omega arith)
+
+  held-by : (P : List ℕ → Type 0) → (receiver .held ≤ receiver .position → P (kept (take (receiver .held) memory))) → P [] → P (heldIn receiver memory)
+  held-by P counted nothing =
+      dite (decLt (receiver .position) (receiver .held))
+      (λ more. rw (held-uncounted more) nothing)
+      (λ few. rw (held-counted (omega arith)) (counted (omega arith)))
+
+  pub held-unfinished : (length (heldIn receiver memory) < streamLength (heldIn receiver memory)) × (streamLength (heldIn receiver memory) ≤ 772)
+  held-unfinished =
+      held-by (λ (s : List ℕ). (length s < streamLength s) × (streamLength s ≤ 772))
+      (λ counted. kept-unfinished (take (receiver .held) memory))
+      (rw (kept-early [] (omega arith)) at (kept-unfinished []))
+
+  -- no more bytes than were used
+  pub held-used : length (heldIn receiver memory) ≤ receiver .position
+  held-used =
+      held-by (λ (s : List ℕ). length s ≤ receiver .position)
+      (λ counted. kept-by (λ (s : List ℕ). length s ≤ receiver .position) (take (receiver .held) memory) (rw length-take (omega arith)) (omega arith))
+      (omega arith)

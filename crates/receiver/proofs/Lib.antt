@@ -5,3 +5,4 @@ pub mod Answers
 pub mod Memory
 pub mod Looping
 pub mod Runs
+pub mod Resets

@@ -11,9 +11,11 @@ use lib.Seq.{take-suc-set, take-all, length-take-le}
 use Rattle.stream.specs.Layout.{streamLength}
 use Rattle.stream.proofs.Lengths.{length-early, length-grows, length-next}
 use Rattle.receiver.specs.Holding.{extended, kept}
+use Rattle.receiver.specs.Receive.{heldIn}
 use Rattle.receiver.specs.Stage.{Holds, Restored, TookByte, unfinished, full}
+use Rattle.receiver.specs.declared.Receiver.{Receiver}
 use Rattle.receiver.specs.declared.buffer.Unfinished.{Unfinished}
-use Rattle.receiver.proofs.Extending.{extended-sync, extended-high, extended-none, extended-low, same-high, kept-short, kept-long, kept-most}
+use Rattle.receiver.proofs.Extending.{extended-sync, extended-high, extended-none, extended-low, same-high, kept-short, kept-long, kept-most, held-counted, held-uncounted}
 
 pub holding-nothing : (memory : List ℕ) → Holds memory (record { held = 0; least = 6 })
 holding-nothing memory =
@@ -26,28 +28,42 @@ holding-room memory u holding = omega (arith, holding .short, holding .announced
 
 -- ── what a state holds
 
-module _ (memory : List ℕ) (n : ℕ) where
-  restored-nothing : kept (take n memory) ≡ [] → Restored memory n (record { held = 0; least = 6 })
-  restored-nothing none = record { holding = holding-nothing memory; bytes = sym none }
+module _ (receiver : Receiver) (memory : List ℕ) where
+  abbrev count : ℕ
+  count = receiver .held
 
-  pub restored-full : length memory ≡ 772 → 772 ≤ n → Restored memory n (record { held = 0; least = 6 })
+  abbrev bytes : List ℕ
+  bytes = take count memory
+
+  restored-nothing : heldIn receiver memory ≡ [] → Restored receiver memory (record { held = 0; least = 6 })
+  restored-nothing none = record { holding = holding-nothing memory; bytes = sym none; counted = omega arith }
+
+  pub restored-uncounted : receiver .position < count → Restored receiver memory (record { held = 0; least = 6 })
+  restored-uncounted more = restored-nothing (held-uncounted receiver memory more)
+
+  -- nothing of those bytes is kept
+  restored-unkept : kept bytes ≡ [] → Restored receiver memory (record { held = 0; least = 6 })
+  restored-unkept none =
+      dite (decLt (receiver .position) count) restored-uncounted (λ few. restored-nothing (held-counted receiver memory (omega arith) ∙ none))
+
+  pub restored-full : length memory ≡ 772 → 772 ≤ count → Restored receiver memory (record { held = 0; least = 6 })
   restored-full size full-up =
-      restored-nothing
-      (dite (decLt 772 (streamLength (take n memory)))
-      (kept-most (take n memory))
-      (λ most. kept-long (take n memory) (omega (arith, ap length (take-all n memory (omega arith))))))
+      restored-unkept
+      (dite (decLt 772 (streamLength bytes)) (kept-most bytes) (λ most. kept-long bytes (omega (arith, ap length (take-all count memory (omega arith))))))
 
-  pub restored-long : n ≤ length memory → streamLength (take n memory) ≤ n → Restored memory n (record { held = 0; least = 6 })
-  restored-long within long = restored-nothing (kept-long (take n memory) (omega (arith, length-take-le n memory within)))
+  pub restored-long : count ≤ length memory → streamLength bytes ≤ count → Restored receiver memory (record { held = 0; least = 6 })
+  restored-long within long = restored-unkept (kept-long bytes (omega (arith, length-take-le count memory within)))
 
-  pub restored-most : 772 < streamLength (take n memory) → Restored memory n (record { held = 0; least = 6 })
-  restored-most far = restored-nothing (kept-most (take n memory) far)
+  pub restored-most : 772 < streamLength bytes → Restored receiver memory (record { held = 0; least = 6 })
+  restored-most far = restored-unkept (kept-most bytes far)
 
-  pub restored : n ≤ length memory → n < streamLength (take n memory) → streamLength (take n memory) ≤ 772 → Restored memory n (record { held = n; least = streamLength (take n memory) })
-  restored within short most =
+  pub restored : count ≤ length memory → count ≤ receiver .position → count < streamLength bytes → streamLength bytes ≤ 772
+      → Restored receiver memory (record { held = count; least = streamLength bytes })
+  restored within counted short most =
       record {
         holding = record { short = short; announced = omega arith; most = most };
-        bytes = sym (kept-short (take n memory) (omega (arith, length-take-le n memory within)) most);
+        bytes = sym (held-counted receiver memory counted ∙ kept-short bytes (omega (arith, length-take-le count memory within)) most);
+        counted = counted;
       }
 
 -- ── a byte of 0x80 or more

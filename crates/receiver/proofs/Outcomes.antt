@@ -9,13 +9,15 @@ use borrow.Author.Tests.{eq-eqb, ne-eqb}
 use lib.ListN.{length, take, drop, length-append}
 use Rattle.basics.specs.Choice.{choose}
 use Rattle.stream.specs.Layout.{streamLength}
-use Rattle.stream.specs.Validation.{validationOf, isWhole}
+use Rattle.stream.specs.Validation.{validationOf}
 use Rattle.stream.proofs.Lengths.{length-grows}
 use Rattle.stream.proofs.Reached.{whole-clean}
-use Rattle.recording.specs.Recording.{Delivery, deliveryAt, deliveriesFrom}
+use Rattle.recording.specs.Decode.{beginning}
+use Rattle.recording.specs.Recording.{Delivery, deliveriesFrom}
+use Rattle.recording.proofs.Decoding.{beginning-whole, beginning-none}
 use Rattle.recording.proofs.Deliveries.{Whole}
 use Rattle.receiver.specs.Holding.{extended, kept}
-use Rattle.receiver.specs.Receive.{Outcome, oneMore, outcomeOf}
+use Rattle.receiver.specs.Receive.{Outcome, oneMore, outcomeOf, completedIn}
 use Rattle.receiver.proofs.Extending.{extended-by, kept-by, kept-unfinished}
 use Rattle.receiver.proofs.Steps.{Held, none, onward, few-whole, completes}
 
@@ -45,28 +47,16 @@ outcome-ind P base done more h (byte ∷ rest) =
 
 -- ── what is left to be delivered
 
--- the delivery of the stream that a chunk completes, if it does, where the bytes used end at `end`
-unfoldable pub deliveredAt : ℕ → List ℕ → List Delivery
-deliveredAt end s = choose (isWhole s) (deliveryAt (end - validationOf s .offset) s ∷ []) []
-
-pub delivered-whole : (end : ℕ) (s : List ℕ) → Whole s → deliveredAt end s ≡ deliveryAt (end - validationOf s .offset) s ∷ []
-unfolding deliveredAt choose
-delivered-whole end s w = rw (eq-eqb _ 0 w)
-
-pub delivered-none : (end : ℕ) (s : List ℕ) → (Whole s → ⊥) → deliveredAt end s ≡ []
-unfolding deliveredAt choose
-delivered-none end s faulty = rw (ne-eqb _ 0 faulty)
-
 pub nothing-whole : Whole [] → ⊥
 nothing-whole w = few-whole [] (omega arith) w
 
 -- o is what came of the chunk behind the bytes h, which stand from p on: what was to be delivered from there on is what o delivers and
 -- what is to be delivered from then on, whatever follows
 pub record Follows (p : ℕ) (h chunk : List ℕ) (o : Outcome) : Type 0 where
-  pub place : ℕ
-  pub there : place + length (o .held) ≡ p + length h + o .used
+  pub position : ℕ
+  pub there : position + length (o .held) ≡ p + length h + o .used
   pub held : Held (o .held)
-  pub same : (t : List ℕ) → deliveriesFrom p (h ++ (chunk ++ t)) ≡ deliveredAt (p + length h + o .used) (o .stream) ++ deliveriesFrom place (o .held ++ (drop (o .used) chunk ++ t))
+  pub same : (t : List ℕ) → deliveriesFrom p (h ++ (chunk ++ t)) ≡ completedIn (p + length h) o ++ deliveriesFrom position (o .held ++ (drop (o .used) chunk ++ t))
 
 pub follows : (h chunk : List ℕ) → Held h → (p : ℕ) → Follows p h chunk (outcomeOf h chunk)
 follows h chunk = outcome-ind (λ (h chunk : List ℕ) (o : Outcome). Held h → (p : ℕ) → Follows p h chunk o) base done more h chunk
@@ -74,35 +64,35 @@ follows h chunk = outcome-ind (λ (h chunk : List ℕ) (o : Outcome). Held h →
     base : (h : List ℕ) → Held h → (p : ℕ) → Follows p h [] (record { stream = []; held = h; used = 0 })
     base h held p =
         record {
-          place = p;
+          position = p;
           there = omega arith;
           held = held;
-          same = λ t. ap (λ (ds : List Delivery). ds ++ deliveriesFrom p (h ++ t)) (sym (delivered-none (p + length h + 0) [] nothing-whole));
+          same = λ t. ap (λ (ds : List Delivery). ds ++ deliveriesFrom p (h ++ t)) (sym (beginning-none (p + length h + 0 - 0) [] nothing-whole));
         }
 
     done : (h : List ℕ) (byte : ℕ) (rest : List ℕ) → Whole (extended h byte) → Held h → (p : ℕ) → Follows p h (byte ∷ rest) (record { stream = extended h byte; held = []; used = 1 })
     done h byte rest w held p =
         let completed = completes p byte h held w in
-        let place : p + length h + 1 - validationOf (extended h byte) .offset ≡ p = omega (arith, completed .sized) in
+        let position : p + length h + 1 - length (extended h byte) ≡ p = omega (arith, completed .long) in
         let next : suc (p + length h) ≡ p + length h + 1 = omega arith in
         record {
-          place = p + length h + 1;
+          position = p + length h + 1;
           there = omega arith;
           held = none;
-          same = λ t. completed .same (rest ++ t) ∙ rw (delivered-whole (p + length h + 1) (extended h byte) w, place, next);
+          same = λ t. completed .same (rest ++ t) ∙ rw (beginning-whole (p + length h + 1 - length (extended h byte)) (extended h byte) w, position, next);
         }
 
     more : (h : List ℕ) (byte : ℕ) (rest : List ℕ) → (Whole (extended h byte) → ⊥) → (o : Outcome)
         → (Held (kept (extended h byte)) → (p : ℕ) → Follows p (kept (extended h byte)) rest o) → Held h → (p : ℕ) → Follows p h (byte ∷ rest) (oneMore o)
     more h byte rest faulty o after held p =
         let step = onward p byte h held faulty in
-        let then = after (step .held) (step .place) in
-        let end : step .place + length (kept (extended h byte)) + o .used ≡ p + length h + suc (o .used) = omega (arith, step .there) in
+        let then = after (step .held) (step .position) in
+        let end : step .position + length (kept (extended h byte)) + o .used ≡ p + length h + suc (o .used) = omega (arith, step .there) in
         record {
-          place = then .place;
+          position = then .position;
           there = then .there ∙ end;
           held = then .held;
-          same = λ t. step .same (rest ++ t) ∙ then .same t ∙ ap (λ (n : ℕ). deliveredAt n (o .stream) ++ deliveriesFrom (then .place) (o .held ++ (drop (o .used) rest ++ t))) end;
+          same = λ t. step .same (rest ++ t) ∙ then .same t ∙ ap (λ (n : ℕ). beginning (n - length (o .stream)) (o .stream) ++ deliveriesFrom (then .position) (o .held ++ (drop (o .used) rest ++ t))) end;
         }
 
 -- ── how many bytes are used, and which

@@ -31,7 +31,7 @@ pub held-kept : (h : List ℕ) → Held h → kept h ≡ h
 held-kept h none = kept-early [] (omega arith)
 held-kept h (some l low short most) = kept-short (0xAA ∷ l) short most
 
--- ── places that deliver nothing
+-- ── positions that deliver nothing
 
 -- a stream that isn't whole, and then low bytes
 passed-low : (p byte : ℕ) (l t : List ℕ) → AllBelow 128 l → (Whole (byte ∷ (l ++ t)) → ⊥) → deliveriesFrom p (byte ∷ (l ++ t)) ≡ deliveriesFrom (p + suc (length l)) t
@@ -63,21 +63,21 @@ held-nothing p h (some l low short most) =
 
 -- k is held from now on, and what was to be delivered from the held bytes on is to be delivered from there on
 pub record Onward (p byte : ℕ) (h k : List ℕ) : Type 0 where
-  pub place : ℕ
-  pub there : place + length k ≡ suc (p + length h)
+  pub position : ℕ
+  pub there : position + length k ≡ suc (p + length h)
   pub held : Held k
-  pub same : (t : List ℕ) → deliveriesFrom p (h ++ (byte ∷ t)) ≡ deliveriesFrom place (k ++ t)
+  pub same : (t : List ℕ) → deliveriesFrom p (h ++ (byte ∷ t)) ≡ deliveriesFrom position (k ++ t)
 
 -- nothing is held from now on
 dropped : (p byte : ℕ) (h k : List ℕ) → k ≡ [] → ((t : List ℕ) → deliveriesFrom p (h ++ (byte ∷ t)) ≡ deliveriesFrom (suc (p + length h)) t) → Onward p byte h k
-dropped p byte h k e same = rw e (record { place = suc (p + length h); there = omega arith; held = none; same = same })
+dropped p byte h k e same = rw e (record { position = suc (p + length h); there = omega arith; held = none; same = same })
 
 module _ (p byte : ℕ) (h : List ℕ) where
   onward-sync : Held h → byte ≡ 0xAA → Onward p byte h (kept (extended h byte))
   onward-sync held e =
       let one : streamLength (0xAA ∷ []) ≡ 6 = length-early (0xAA ∷ []) (omega arith) in
       rw (extended-sync h byte e, kept-early (byte ∷ []) (omega arith), e) (record {
-        place = p + length h;
+        position = p + length h;
         there = omega arith;
         held = some [] tt (omega (arith, one)) (omega (arith, one));
         same = λ t. ended p h held 0xAA t (omega arith);
@@ -130,7 +130,7 @@ module _ (p byte : ℕ) (l : List ℕ) (below : AllBelow 128 l) (short : suc (le
   onward-short less =
       let fits = length-next (0xAA ∷ l) byte low most in
       rw (kept-short (0xAA ∷ longer) less fits) (record {
-        place = p;
+        position = p;
         there = omega (arith, size);
         held = some longer all-low less fits;
         same = λ t. ap (deliveriesFrom p) (split t);

@@ -4,6 +4,7 @@ ghost use Prim.Native.Nat.{_≤_, _<_};
 ghost use mathlib.Core.List.{[]};
 ghost use lib.ListN.{length, take};
 ghost use Rattle.receiver.specs.Stage.{Holds, Restored, TookByte};
+use crate::Receiver;
 use crate::length::announced;
 
 // How many bytes are held, and how many their stream has at least: the announced length is looked up again only when so many are held.
@@ -19,13 +20,18 @@ pub fn nothing() -> Unfinished
     Unfinished { held: 0, least: 6 }
 }
 
-// What a state with so many bytes in the memory holds.
-pub fn restore(memory: &[u8], held: usize) -> Unfinished
+// What a receiver holds; nothing, if no calls lead to its state.
+pub fn restore(receiver: Receiver, memory: &[u8]) -> Unfinished
     requires { ⌜ length (now memory) ≡ 772 ⌝ }
-    ensures { λ r. ⌜ Restored (now (memory .entry)) held r ⌝ }
+    ensures { λ r. ⌜ Restored receiver (now (memory .entry)) r ⌝ }
 {
+    let held = receiver.held;
     // No stream is longer than 772 bytes, and so no unfinished one is as long.
     if held >= 772 {
+        return nothing();
+    }
+    // Nor are more bytes held than were used.
+    if held as u64 > receiver.position {
         return nothing();
     }
     let least = announced(&memory[0..held]);

@@ -56,7 +56,7 @@ no-overlap s p q wp wq before =
     absurd (omega (arith, whole-sync (drop q s) wq)))
     (λ outside. omega arith)
 
--- ── one place
+-- ── one position
 
 module _ (q byte : ℕ) (rest : List ℕ) where
   here : Whole (byte ∷ rest) → deliveriesFrom q (byte ∷ rest) ≡ deliveryAt q (byte ∷ rest) ∷ deliveriesFrom (suc q) rest
@@ -105,7 +105,7 @@ module _ (s : List ℕ) (start : ℕ) where
   pub after-here : Whole (drop start s) → deliveriesAfter s start ≡ deliveryAt start (drop start s) ∷ deliveriesAfter s (start + validationOf (drop start s) .offset)
   after-here w = first-whole start (drop start s) w ∙ rw drop-drop
 
--- past places where no whole stream begins
+-- past positions where no whole stream begins
 pub after-skip : (s : List ℕ) (start n : ℕ) → ((k : ℕ) → start ≤ k → k < start + n → k < length s → Whole (drop k s) → ⊥) → deliveriesAfter s start ≡ deliveriesAfter s (start + n)
 after-skip s start zero none = rw (add-zero start)
 after-skip s start (suc n) none =
@@ -170,6 +170,6 @@ contents-moved p q (byte ∷ rest) =
     (λ w. rw (here p byte rest w, here q byte rest w) (ap {B = List Record} (λ l. recordOf (byte ∷ rest) ∷ l) (contents-moved (suc p) (suc q) rest)))
     (λ no. rw (passed p byte rest no, passed q byte rest no) (contents-moved (suc p) (suc q) rest))
 
--- the deliveries from a place on are the records of the bytes from there on
+-- the deliveries from a position on are the records of the bytes from there on
 pub contents-after : (s : List ℕ) (start : ℕ) → contentsOf (deliveriesAfter s start) ≡ records (drop start s)
 contents-after s start = contents-moved start 0 (drop start s)

@@ -1,4 +1,4 @@
--- What *next* answers, in terms of places and records: demand 2's "exactly".
+-- What *next* answers, in terms of positions and records: demand 2's "exactly".
 use Prim.Native.Nat.{ℕ, _+_, _<_, _≤_}
 use native.Mathlib.Omega.{arith}
 use native.Mathlib.Decide.{ℕ-discrete}
@@ -26,13 +26,13 @@ use Rattle.recording.proofs.Deliveries.{Whole, whole-long, FirstAfter, 
 
 -- a is the answer for the first whole stream at or after the start, and the records from there on are its own and those behind it
 pub record Finds (s : List ℕ) (start : ℕ) (a : Found) : Type 0 where
-  pub after : start ≤ a .place
-  pub whole : Whole (drop (a .place) s)
-  pub sized : a .length ≡ validationOf (drop (a .place) s) .offset
-  pub header : a .header ≡ recordOf (drop (a .place) s) .header
-  pub payload : a .«payload_length» ≡ length (recordOf (drop (a .place) s) .payload)
-  pub first : (q : ℕ) → start ≤ q → q < a .place → Whole (drop q s) → ⊥
-  pub rest : records (drop start s) ≡ recordOf (drop (a .place) s) ∷ records (drop (a .place + a .length) s)
+  pub after : start ≤ a .position
+  pub whole : Whole (drop (a .position) s)
+  pub sized : a .length ≡ validationOf (drop (a .position) s) .offset
+  pub header : a .header ≡ recordOf (drop (a .position) s) .header
+  pub payload : a .«payload_length» ≡ length (recordOf (drop (a .position) s) .payload)
+  pub first : (q : ℕ) → start ≤ q → q < a .position → Whole (drop q s) → ⊥
+  pub rest : records (drop start s) ≡ recordOf (drop (a .position) s) ∷ records (drop (a .position + a .length) s)
 
 finds : (s : List ℕ) (start : ℕ) (ds : List Delivery) → deliveriesAfter s start ≡ ds → FirstAfter s start ds → firstOf ds .found ≡ true → Finds s start (firstOf ds)
 finds s start ds same (none free) found = absurd (false≢true found)
@@ -98,7 +98,7 @@ module _ (s : List ℕ) (start : ℕ) (out : List ℕ) where
 
 -- ── found
 
--- next gives the first whole place at or after the start, with its record
+-- next gives the first position at or after the start where a whole stream stands, with its record
 pub next-first : (s : List ℕ) (start room : ℕ) → nextOf s start room .found ≡ true → Finds s start (nextOf s start room)
 next-first s start room found =
     let e = next-answers s start room (found-refusal s start room found) in
@@ -118,7 +118,7 @@ none-empty : (s : List ℕ) (start : ℕ) (ds : List Delivery) → FirstAfter s 
 none-empty s start ds (none free) no-whole = refl
 none-empty s start ds (some q after inside whole free) no-whole = absurd (no-whole q after inside whole)
 
--- the answer is "none" exactly if there is no such place
+-- the answer is "none" exactly if there is no such position
 pub next-none : (s : List ℕ) (start room : ℕ)
     → ((nextOf s start room .number ≡ 0) × (nextOf s start room .found ≡ false)) ↔ ((start ≤ length s) × NoneAfter s start)
 next-none s start room = (
@@ -137,7 +137,7 @@ next-none s start room = (
 -- next over what encode wrote, whatever stands behind it, gives that record at 0
 pub encode-next : (r : Record) (out buffer : List ℕ) → InRange r → encode-refusal r (length out) ≡ 0 → length (r .payload) ≤ length buffer
     → (nextOf (outputAfter r out) 0 (length buffer)
-    ≡ record { number = 0; found = true; place = 0; length = length (streamOf r); header = r .header; «payload_length» = length (r .payload) })
+    ≡ record { number = 0; found = true; position = 0; length = length (streamOf r); header = r .header; «payload_length» = length (r .payload) })
     × (payloadAfter (outputAfter r out) 0 buffer ≡ over (r .payload) buffer)
 unfolding choose
 encode-next r out buffer range written room =
@@ -147,7 +147,7 @@ encode-next r out buffer range written room =
     let (verdict, read) = read-back r writable t in
     let d : deliveriesAfter s 0 ≡ deliveryAt 0 s ∷ deliveriesFrom (0 + validationOf s .offset) (drop (validationOf s .offset) s) =
     first-whole 0 s (ap (λ (v : Validation). v .verdict) verdict) in
-    let delivered : firstOf (deliveriesAfter s 0) ≡ record { number = 0; found = true; place = 0; length = length (streamOf r); header = r .header; «payload_length» = length (r .payload) } =
+    let delivered : firstOf (deliveriesAfter s 0) ≡ record { number = 0; found = true; position = 0; length = length (streamOf r); header = r .header; «payload_length» = length (r .payload) } =
     ap firstOf d ∙ rw (verdict, read) in
     let payload : payloadOf (deliveriesAfter s 0) ≡ r .payload = ap payloadOf d ∙ rw read in
     let unrefused-next : refusal s 0 (length buffer) ≡ 0 = refusal-none s 0 (length buffer) (omega arith) (rw payload room) in
@@ -157,10 +157,10 @@ encode-next r out buffer range written room =
 -- ── exactly
 
 found-here : (s : List ℕ) (q : ℕ) (ds : List Delivery) → FirstAfter s q ds
-    → ((firstOf ds .found ≡ true) × (firstOf ds .place ≡ q)) ↔ ((q < length s) × Whole (drop q s))
-found-here s q ds (none free) = ((λ (found, place). absurd (false≢true found)), (λ (inside, whole). absurd (free q (omega arith) inside whole)))
+    → ((firstOf ds .found ≡ true) × (firstOf ds .position ≡ q)) ↔ ((q < length s) × Whole (drop q s))
+found-here s q ds (none free) = ((λ (found, at). absurd (false≢true found)), (λ (inside, whole). absurd (free q (omega arith) inside whole)))
 found-here s q ds (some p after inside whole free) = (
-  (λ (found, place). (omega arith, subst (λ (n : ℕ). Whole (drop n s)) place whole)),
+  (λ (found, at). (omega arith, subst (λ (n : ℕ). Whole (drop n s)) at whole)),
   (λ (within, here). (refl, dite (ℕ-discrete p q) (λ same. same) (λ other. absurd (free q (omega arith) (omega arith) here)))),
 )
 
@@ -169,9 +169,9 @@ payload-most : (s : List ℕ) (start : ℕ) (ds : List Delivery) → FirstAfter 
 payload-most s start ds (none free) = omega arith
 payload-most s start ds (some q after inside whole free) = Carried.payload-most (recordOf (drop q s)) (whole-writable (drop q s) whole)
 
--- given room for any payload, next finds a record at a place exactly if the bytes from there on begin with one whole valid stream
+-- given room for any payload, next finds a record at a position exactly if the bytes from there on begin with one whole valid stream
 pub next-exactly : (s : List ℕ) (q room : ℕ) → q ≤ length s → 508 ≤ room
-    → ((nextOf s q room .found ≡ true) × (nextOf s q room .place ≡ q)) ↔ Whole (drop q s)
+    → ((nextOf s q room .found ≡ true) × (nextOf s q room .position ≡ q)) ↔ Whole (drop q s)
 next-exactly s q room within fits =
     let answers = next-answers s q room (refusal-none s q room within (omega (arith, payload-most s q (deliveriesAfter s q) (first-after s q)))) in
     let exactly = found-here s q (deliveriesAfter s q) (first-after s q) in

@@ -24,16 +24,16 @@ use Rattle.recording.proofs.Nexts.{refusal-none, refusal-short, next-an
 
 -- the stream that was found, and what follows it
 pub record FoundAt (s : List ℕ) (start : ℕ) (span : Span) : Type 0 where
-  pub after : start ≤ span .place
+  pub after : start ≤ span .position
   pub whole-at : WholeAt s span
   pub long : 8 ≤ span .length
-  pub inside : span .place + span .length ≤ length s
-  pub deliveries : deliveriesAfter s start ≡ deliveryAt (span .place) (drop (span .place) s) ∷ deliveriesAfter s (span .place + span .length)
+  pub inside : span .position + span .length ≤ length s
+  pub deliveries : deliveriesAfter s start ≡ deliveryAt (span .position) (drop (span .position) s) ∷ deliveriesAfter s (span .position + span .length)
 
 found-at : (s : List ℕ) (start : ℕ) (ds : List Delivery) (span : Span) → deliveriesAfter s start ≡ ds → FirstAfter s start ds → searched s ds ≡ At span → FoundAt s start span
 found-at s start ds span same (none free) e = absurd (let z : _≡_ {A = ℕ} 0 1 = cc in omega arith)
 found-at s start ds span same (some q after inside whole free) e =
-    let is : record { place = q; length = validationOf (drop q s) .offset; «unused_septets» = validationOf (drop q s) .«unused_septets» } ≡ span = cc in
+    let is : record { position = q; length = validationOf (drop q s) .offset; «unused_septets» = validationOf (drop q s) .«unused_septets» } ≡ span = cc in
     let long = whole-long (drop q s) whole in
     subst (FoundAt s start) is
     (record {
@@ -57,18 +57,18 @@ module _ (s : List ℕ) (start : ℕ) where
 
 -- ── what is answered for it
 
-module _ (s : List ℕ) (place room : ℕ) where
-  pub delivered-short : room < length (recordOf (drop place s) .payload) → deliveredOf s place room ≡ without 5
+module _ (s : List ℕ) (position room : ℕ) where
+  pub delivered-short : room < length (recordOf (drop position s) .payload) → deliveredOf s position room ≡ without 5
   unfolding choose
   delivered-short short = rw (lt-ltb room _ short)
 
-  pub delivered-fits : length (recordOf (drop place s) .payload) ≤ room → deliveredOf s place room ≡ firstOf (deliveryAt place (drop place s) ∷ [])
+  pub delivered-fits : length (recordOf (drop position s) .payload) ≤ room → deliveredOf s position room ≡ firstOf (deliveryAt position (drop position s) ∷ [])
   unfolding choose
   delivered-fits fits = rw (le-ltb room _ fits)
 
 module _ (s : List ℕ) (start : ℕ) (span : Span) (found : FoundAt s start span) (within : start ≤ length s) where
   payload : List ℕ
-  payload = recordOf (drop (span .place) s) .payload
+  payload = recordOf (drop (span .position) s) .payload
 
   is : payloadOf (deliveriesAfter s start) ≡ payload
   unfolding payload
@@ -80,16 +80,16 @@ module _ (s : List ℕ) (start : ℕ) (span : Span) (found : FoundAt s start spa
   fits : (room : ℕ) → length payload ≤ room → refusal s start room ≡ 0
   fits room h = refusal-none s start room within (rw is h)
 
-  pub next-found : (room : ℕ) → deliveredOf s (span .place) room ≡ nextOf s start room
+  pub next-found : (room : ℕ) → deliveredOf s (span .position) room ≡ nextOf s start room
   unfolding payload
   next-found room =
       dite (decLt room (length payload))
-      (λ less. delivered-short s (span .place) room less ∙ sym (next-refuses s start room 5 (omega arith) (short room less)))
+      (λ less. delivered-short s (span .position) room less ∙ sym (next-refuses s start room 5 (omega arith) (short room less)))
       (λ enough.
-      delivered-fits s (span .place) room (omega arith)
+      delivered-fits s (span .position) room (omega arith)
       ∙ sym (next-answers s start room (fits room (omega arith)) ∙ ap firstOf (found .deliveries)))
 
-  pub output-found : (out : List ℕ) → outputFor (recordOf (drop (span .place) s) .payload) out ≡ payloadAfter s start out
+  pub output-found : (out : List ℕ) → outputFor (recordOf (drop (span .position) s) .payload) out ≡ payloadAfter s start out
   unfolding payload
   output-found out =
       dite (decLt (length out) (length payload))

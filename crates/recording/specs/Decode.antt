@@ -9,15 +9,15 @@ use Rattle.recording.specs.Next.{without, firstOf, payloadOf}
 use Rattle.recording.specs.Recording.{Delivery, deliveryAt}
 use Rattle.recording.specs.declared.Found.{Found}
 
--- the delivery of a stretch that is V0, or none
-unfoldable pub beginning : List ℕ → List Delivery
-beginning s = choose (isWhole s) (deliveryAt 0 s ∷ []) []
+-- the delivery of a stretch that stands at position q and is V0, or none
+unfoldable pub beginning : ℕ → List ℕ → List Delivery
+beginning q s = choose (isWhole s) (deliveryAt q s ∷ []) []
 
 -- what is answered for an output of the given room; 5: it is shorter than the payload
 abbrev pub decodedOf : List ℕ → ℕ → Found
 decodedOf s room =
-    choose (eqb (roomRefusal (payloadOf (beginning s)) room) 0) (firstOf (beginning s)) (without (roomRefusal (payloadOf (beginning s)) room))
+    choose (eqb (roomRefusal (payloadOf (beginning 0 s)) room) 0) (firstOf (beginning 0 s)) (without (roomRefusal (payloadOf (beginning 0 s)) room))
 
 -- the output afterwards
 abbrev pub decodedAfter : List ℕ → List ℕ → List ℕ
-decodedAfter s out = outputFor (payloadOf (beginning s)) out
+decodedAfter s out = outputFor (payloadOf (beginning 0 s)) out

@@ -15,7 +15,7 @@ without n =
     record {
       number = n;
       found = false;
-      place = 0;
+      position = 0;
       length = 0;
       header = record { version = 0; destination = 0; source = 0; command = 0 };
       «payload_length» = 0;
@@ -25,7 +25,7 @@ without n =
 abbrev pub firstOf : List Delivery → Found
 firstOf [] = without 0
 firstOf (d ∷ rest) =
-    record { number = 0; found = true; place = d .place; length = d .length; header = d .contents .header; «payload_length» = length (d .contents .payload) }
+    record { number = 0; found = true; position = d .position; length = d .length; header = d .contents .header; «payload_length» = length (d .contents .payload) }
 
 abbrev pub payloadOf : List Delivery → List ℕ
 payloadOf [] = []

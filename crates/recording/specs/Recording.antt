@@ -6,17 +6,17 @@ use Rattle.basics.specs.Choice.{choose}
 use Rattle.stream.specs.Validation.{validationOf, isWhole}
 use Rattle.record.specs.Record.{Record, recordOf}
 
--- one delivered record: the place of its stream's 0xAA, the stream's length, and what it says
+-- one delivered record: the position of its stream's 0xAA (request No. 5), the stream's length, and what it says
 pub record Delivery : Type 0 where
-  pub place : ℕ
+  pub position : ℕ
   pub length : ℕ
   pub contents : Record
 
--- of a whole stream that stands at place q
+-- of a whole stream that stands at position q
 abbrev pub deliveryAt : ℕ → List ℕ → Delivery
-deliveryAt q s = record { place = q; length = validationOf s .offset; contents = recordOf s }
+deliveryAt q s = record { position = q; length = validationOf s .offset; contents = recordOf s }
 
--- the deliveries of bytes that stand from place q on: at each place where the stretch to the input's end is V0, in order of place
+-- the deliveries of bytes that stand from position q on: at each position where the stretch to the input's end is V0, in order of position
 unfoldable pub deliveriesFrom : ℕ → List ℕ → List Delivery
 deliveriesFrom q [] = []
 deliveriesFrom q (byte ∷ rest) =
@@ -26,7 +26,7 @@ deliveriesFrom q (byte ∷ rest) =
 abbrev pub deliveriesAfter : List ℕ → ℕ → List Delivery
 deliveriesAfter s start = deliveriesFrom start (drop start s)
 
--- the records alone, without their places
+-- the records alone, without their positions
 abbrev pub contentsOf : List Delivery → List Record
 contentsOf [] = []
 contentsOf (d ∷ rest) = d .contents ∷ contentsOf rest

@@ -19,14 +19,14 @@ use Rattle.recording.specs.declared.search.Search.the-variants.{At, Noth
 -- where the first delivery of s stands, and the unused septets there
 abbrev pub searched : List ℕ → List Delivery → Search
 searched s [] = Nothing
-searched s (d ∷ rest) = At (record { place = d .place; length = d .length; «unused_septets» = validationOf (drop (d .place) s) .«unused_septets» })
+searched s (d ∷ rest) = At (record { position = d .position; length = d .length; «unused_septets» = validationOf (drop (d .position) s) .«unused_septets» })
 
--- a whole stream stands at the place, as long and with as many unused septets as is said
+-- a whole stream stands at the position, as long and with as many unused septets as is said
 pub record WholeAt (s : List ℕ) (span : Span) : Type 0 where
-  pub within : span .place ≤ length s
-  pub whole : validationOf (drop (span .place) s) .verdict ≡ 0
-  pub sized : span .length ≡ validationOf (drop (span .place) s) .offset
-  pub counted : span .«unused_septets» ≡ validationOf (drop (span .place) s) .«unused_septets»
+  pub within : span .position ≤ length s
+  pub whole : validationOf (drop (span .position) s) .verdict ≡ 0
+  pub sized : span .length ≡ validationOf (drop (span .position) s) .offset
+  pub counted : span .«unused_septets» ≡ validationOf (drop (span .position) s) .«unused_septets»
 
 -- the bytes are one whole stream and no more, with so many unused septets, and the output has room for them
 pub record OneStream (s : List ℕ) (unused room : ℕ) : Type 0 where
@@ -50,7 +50,7 @@ pub record PayloadHeld (K : Kind) (s : List ℕ) (count room : ℕ) : Type 0 whe
   pub few : count < 256
   pub fits : payloadLength K count ≤ room
 
--- the answer for a whole stream at a place, by the output's room
+-- the answer for a whole stream at a position, by the output's room
 abbrev pub deliveredOf : List ℕ → ℕ → ℕ → Found
-deliveredOf s place room =
-    choose (ltb room (length (recordOf (drop place s) .payload))) (without 5) (firstOf (deliveryAt place (drop place s) ∷ []))
+deliveredOf s position room =
+    choose (ltb room (length (recordOf (drop position s) .payload))) (without 5) (firstOf (deliveryAt position (drop position s) ∷ []))

@@ -18,13 +18,13 @@ use record::Header;
 use search::Search;
 use search::Span;
 
-// The next record: where its stream stands and how long it is, its header, and how long its payload is.
+// The next record: the position of its 0xAA in the input, how long its stream is, its header, and how long its payload is.
 // Where there is none, or the call is refused, every field but the number is zero.
 #[repr(C)]
 pub struct Found {
     pub number: u32,
     pub found: bool,
-    pub place: usize,
+    pub position: u64,
     pub length: usize,
     pub header: Header,
     pub payload_length: usize,
@@ -37,7 +37,7 @@ fn without(number: u32) -> Found
     Found {
         number,
         found: false,
-        place: 0,
+        position: 0,
         length: 0,
         header: Header {
             version: 0,
@@ -52,19 +52,19 @@ fn without(number: u32) -> Found
 // Hands out the record of a whole stream.
 fn deliver(input: &[u8], span: Span, out: &mut [u8]) -> Found
     requires { ⌜ WholeAt (now input) span ⌝ }
-    ensures { λ r. ⌜ r ≡ deliveredOf (now (input .entry)) (span .place) (length (now (out .entry))) ⌝ }
-    ensures { λ r. ⌜ now (out .exit) ≡ outputFor (recordOf (drop (span .place) (now (input .entry))) .payload) (now (out .entry)) ⌝ }
+    ensures { λ r. ⌜ r ≡ deliveredOf (now (input .entry)) (span .position) (length (now (out .entry))) ⌝ }
+    ensures { λ r. ⌜ now (out .exit) ≡ outputFor (recordOf (drop (span .position) (now (input .entry))) .payload) (now (out .entry)) ⌝ }
 {
-    let place = span.place;
-    let header = read::header(&input[place..]);
-    let size = read::payload(&input[place..], out);
+    let position = span.position;
+    let header = read::header(&input[position..]);
+    let size = read::payload(&input[position..], out);
     if out.len() < size {
         return without(5);
     }
     Found {
         number: 0,
         found: true,
-        place,
+        position: position as u64,
         length: span.length,
         header,
         payload_length: size,
@@ -84,7 +84,7 @@ pub fn decode(input: &[u8], out: &mut [u8]) -> Found
     deliver(
         input,
         Span {
-            place: 0,
+            position: 0,
             length: stop.offset,
             unused_septets: stop.unused_septets,
         },

@@ -21,7 +21,7 @@ fn measure(input: &[u8]) -> usize
         match first_whole(input, at) {
             Search::At(span) => {
                 total += span.length;
-                at = span.place + span.length;
+                at = span.position + span.length;
             }
             Search::Nothing => break total,
         }
@@ -51,10 +51,10 @@ fn all(input: &[u8], out: &mut [u8]) -> usize
     loop {
         match first_whole(input, at) {
             Search::At(span) => {
-                let place = span.place;
+                let position = span.position;
                 let length = span.length;
-                at = place + length;
-                one(&input[place..at], span.unused_septets, &mut out[to..]);
+                at = position + length;
+                one(&input[position..at], span.unused_septets, &mut out[to..]);
                 to += length;
             }
             Search::Nothing => break to,

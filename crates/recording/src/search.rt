@@ -5,7 +5,7 @@ ghost use Rattle.recording.specs.Stage.{searched};
 
 // Where a whole stream stands, how long it is, and how many of its blocks have unused septet bits set.
 pub struct Span {
-    pub place: usize,
+    pub position: usize,
     pub length: usize,
     pub unused_septets: u8,
 }
@@ -15,7 +15,7 @@ pub enum Search {
     Nothing,
 }
 
-// The first place from `start` on at which the stretch to the input's end begins with a whole stream.
+// The first position from `start` on at which the stretch to the input's end begins with a whole stream.
 pub fn first_whole(input: &[u8], start: usize) -> Search
     ensures { λ r. ⌜ r ≡ searched (now (input .entry)) (deliveriesAfter (now (input .entry)) start) ⌝ }
 {
@@ -29,7 +29,7 @@ pub fn first_whole(input: &[u8], start: usize) -> Search
         let offset = stop.offset;
         if stop.verdict == 0 {
             break Search::At(Span {
-                place: at,
+                position: at,
                 length: offset,
                 unused_septets: stop.unused_septets,
             });

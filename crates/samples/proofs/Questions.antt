@@ -20,7 +20,7 @@ use Rattle.recording.specs.Next.{nextOf, payloadAfter}
 use Rattle.recording.specs.Normalize.{normalizingOf}
 use Rattle.recording.specs.Normalize as Normals
 use Rattle.recording.specs.declared.Found.{Found}
-use Rattle.receiver.specs.Receive.{receivedOf}
+use Rattle.receiver.specs.Receive.{receivedOf, resetOf}
 use Rattle.receiver.specs.Receive as Receptions
 use Rattle.receiver.specs.declared.Receiver.{Receiver}
 use Rattle.receiver.specs.declared.Received.{Received}
@@ -42,7 +42,8 @@ pub data Question : Type 0 where
   encode : Record → ℕ → Question
   value : List ℕ → Question
   next : List ℕ → ℕ → ℕ → Question
-  receive : ℕ → List ℕ → List ℕ → ℕ → Question
+  receive : Receiver → List ℕ → List ℕ → ℕ → Question
+  reset : Receiver → Question
   fault : List ℕ → ℕ → Question
   normalize : List ℕ → ℕ → Question
   sections : Header → List ℕ → Question
@@ -78,14 +79,14 @@ abbrev writtenTold : Written → List ℕ
 writtenTold a = a .number ∷ a .length ∷ []
 
 abbrev nextTold : Found → List ℕ
-nextTold a = a .number ∷ boolTold (a .found) ∷ a .place ∷ a .length ∷ (headerTold (a .header) ++ (a .«payload_length» ∷ []))
+nextTold a = a .number ∷ boolTold (a .found) ∷ a .position ∷ a .length ∷ (headerTold (a .header) ++ (a .«payload_length» ∷ []))
 
--- the state with so many bytes held
-abbrev holding : ℕ → Receiver
-holding held = record { held = held }
+abbrev receiverTold : Receiver → List ℕ
+receiverTold r = r .held ∷ r .position ∷ []
 
 abbrev receivedTold : Received → List ℕ
-receivedTold a = a .number ∷ boolTold (a .found) ∷ a .used ∷ a .length ∷ (headerTold (a .header) ++ (a .«payload_length» ∷ a .receiver .held ∷ []))
+receivedTold a =
+    a .number ∷ boolTold (a .found) ∷ a .used ∷ a .position ∷ a .length ∷ (headerTold (a .header) ++ (a .«payload_length» ∷ receiverTold (a .receiver)))
 
 abbrev faultTold : Fault → List ℕ
 faultTold f =
@@ -107,7 +108,8 @@ answer (carry r) = unwritable r ∷ []
 answer (encode r room) = writtenTold (encodingOf r room) ++ Encodings.outputAfter r (untouched room)
 answer (value payload) = signedTold (valueOf payload)
 answer (next s start room) = nextTold (nextOf s start room) ++ payloadAfter s start (untouched room)
-answer (receive held memory chunk room) = receivedTold (receivedOf (holding held) memory chunk room) ++ Receptions.outputAfter (holding held) memory chunk (untouched room)
+answer (receive receiver memory chunk room) = receivedTold (receivedOf receiver memory chunk room) ++ Receptions.outputAfter receiver memory chunk (untouched room)
+answer (reset receiver) = receiverTold (resetOf receiver)
 answer (fault s start) = faultTold (nextFault s start)
 answer (normalize s room) = writtenTold (normalizingOf s room) ++ Normals.outputAfter s (untouched room)
 answer (sections h payload) = countTold (sectionCount h payload)

@@ -1,6 +1,6 @@
 -- The definitions of specs/ hold of document 01's starred samples, and of more that pin their numbers: one statement over a table,
 -- by computation. Assumes nothing.
-use Prim.Native.Nat.{ℕ}
+use Prim.Native.Nat.{ℕ, _+_, _-_, _^_}
 use mathlib.Core.Path.{_≡_, refl}
 use mathlib.Core.List.{List, [], _∷_, _++_, map, flatten}
 use lib.ListN.{take, drop, replicate}
@@ -22,13 +22,14 @@ use Rattle.recording.specs.Next as Nexts
 use Rattle.recording.specs.Normalize.{streams}
 use Rattle.recording.specs.Decode.{beginning}
 use Rattle.receiver.specs.Holding.{extended, kept}
-use Rattle.receiver.specs.Receive.{outcomeOf}
+use Rattle.receiver.specs.Receive.{outcomeOf, heldIn}
 use Rattle.receiver.specs.Receive as Receptions
+use Rattle.receiver.specs.declared.Receiver.{Receiver}
 use Rattle.diagnosis.specs.Fault.{wantedAt, faultsFrom, nextFault}
 use Rattle.sections.specs.Section.{cut, someShort}
 use Rattle.sections.specs.Element.{elementSize}
 use Rattle.sections.specs.Answer.{notBlock}
-use Rattle.samples.proofs.Questions.{Question, checksum, extract, inject, validate, read, carry, encode, value, next, receive, fault, normalize, sections, section, elements, element, temperature, verdict, untouched, answer}
+use Rattle.samples.proofs.Questions.{Question, checksum, extract, inject, validate, read, carry, encode, value, next, receive, reset, fault, normalize, sections, section, elements, element, temperature, verdict, untouched, answer}
 use Rattle.samples.proofs.Samples.{bytes, recorded, p1, d1, t1, t2, p1Unused, d1Unused, threeUnused, threeClear, t2Septet, twoFrames, sixTopBits, threeFrames, threeFramesPayload, damaged, packet, datagram, telegram, blockHeader, example, eachType}
 
 -- a question and the answer that the papers give
@@ -179,31 +180,48 @@ recordings =
     ∷ (normalize threeUnused 27, refused 5 27)
     ∷ []
 
--- nothing received: the number, how many bytes were used, and how many are held
-abbrev noneReceived : ℕ → ℕ → ℕ → ℕ → List ℕ
-noneReceived number used held room = number ∷ 0 ∷ used ∷ (replicate 6 0 ++ (held ∷ untouched room))
+-- a receiver that holds so many bytes, of so many used
+abbrev state : ℕ → ℕ → Receiver
+state held position = record { held = held; position = position }
 
--- P1 received, with so many bytes used
-abbrev p1Received : ℕ → List ℕ
-p1Received used = 0 ∷ 1 ∷ used ∷ 16 ∷ 0x10 ∷ 0x4411 ∷ 0x6610 ∷ 0x0200 ∷ 4 ∷ 0 ∷ (bytes 4 0x07040F00 ++ untouched 504)
+-- nothing received: the number, how many bytes were used, and the state
+abbrev noneReceived : ℕ → ℕ → ℕ → ℕ → ℕ → List ℕ
+noneReceived number used held position room = number ∷ 0 ∷ used ∷ (replicate 7 0 ++ (held ∷ position ∷ untouched room))
 
--- of a state the number of bytes held, and the memory
+-- P1 received, with so many bytes used, at a position
+abbrev p1Received : ℕ → ℕ → List ℕ
+p1Received used position =
+    0 ∷ 1 ∷ used ∷ position ∷ 16 ∷ 0x10 ∷ 0x4411 ∷ 0x6610 ∷ 0x0200 ∷ 4 ∷ 0 ∷ (position + 16) ∷ (bytes 4 0x07040F00 ++ untouched 504)
+
+-- a state and the memory, a chunk and a room
 abbrev receptions : List Row
 receptions =
-    (receive 0 [] p1 508, p1Received 16)
-    ∷ (receive 0 [] (take 7 p1) 508, noneReceived 0 7 7 508)
-    ∷ (receive 7 p1 (drop 7 p1 ++ d1) 508, p1Received 9)
-    ∷ (receive 7 p1 (drop 7 p1) 507, noneReceived 5 0 7 507)
-    ∷ (receive 7 p1 [] 508, noneReceived 0 0 7 508)
-    ∷ (receive 7 p1 p1 508, p1Received 16)
-    ∷ (receive 7 p1 (0x80 ∷ drop 7 p1) 508, noneReceived 0 10 0 508)
-    ∷ (receive 15 p1 (0x64 ∷ p1) 508, p1Received 17)
-    ∷ (receive 16 p1 (0x00 ∷ []) 508, noneReceived 0 1 0 508)
-    ∷ (receive 3 (0x01 ∷ 0x02 ∷ 0x03 ∷ []) (0x04 ∷ []) 508, noneReceived 0 1 4 508)
-    ∷ (receive 800 (p1 ++ replicate 756 0) [] 508, noneReceived 0 0 0 508)
-    ∷ (receive 9 (bytes 9 0xAA114410_66100002_7F) [] 508, noneReceived 0 0 9 508)
-    ∷ (receive 9 (bytes 9 0xAA114410_66100002_80) [] 508, noneReceived 0 0 0 508)
-    ∷ (receive 5 (bytes 5 0xAA102031_77) (0x11 ∷ []) 508, noneReceived 0 1 0 508)
+    (receive (state 0 0) [] p1 508, p1Received 16 0)
+    ∷ (receive (state 0 0) [] (take 7 p1) 508, noneReceived 0 7 7 7 508)
+    ∷ (receive (state 7 7) p1 (drop 7 p1 ++ d1) 508, p1Received 9 0)
+    ∷ (receive (state 7 40) p1 (drop 7 p1) 508, p1Received 9 33)
+    ∷ (receive (state 7 40) p1 (drop 7 p1) 507, noneReceived 5 0 7 40 507)
+    ∷ (receive (state 7 40) p1 [] 508, noneReceived 0 0 7 40 508)
+    ∷ (receive (state 7 40) p1 p1 508, p1Received 16 40)
+    ∷ (receive (state 7 40) p1 (0x80 ∷ drop 7 p1) 508, noneReceived 0 10 0 50 508)
+    ∷ (receive (state 15 40) p1 (0x64 ∷ p1) 508, p1Received 17 41)
+    ∷ (receive (state 16 40) p1 (0x00 ∷ []) 508, noneReceived 0 1 0 41 508)
+    ∷ (receive (state 3 3) (0x01 ∷ 0x02 ∷ 0x03 ∷ []) (0x04 ∷ []) 508, noneReceived 0 1 4 4 508)
+    ∷ (receive (state 800 800) (p1 ++ replicate 756 0) [] 508, noneReceived 0 0 0 800 508)
+    ∷ (receive (state 9 9) (bytes 9 0xAA114410_66100002_7F) [] 508, noneReceived 0 0 9 9 508)
+    ∷ (receive (state 9 9) (bytes 9 0xAA114410_66100002_80) [] 508, noneReceived 0 0 0 9 508)
+    ∷ (receive (state 5 5) (bytes 5 0xAA102031_77) (0x11 ∷ []) 508, noneReceived 0 1 0 6 508)
+    ∷ (receive (state 7 6) p1 (drop 7 p1) 508, noneReceived 0 9 0 15 508)
+    ∷ (receive (state 7 6) p1 (drop 7 p1) 507, noneReceived 5 0 7 6 507)
+    ∷ (receive (state 0 (2 ^ 64 - 17)) [] (take 15 p1) 508, noneReceived 0 15 15 (2 ^ 64 - 2) 508)
+    ∷ (receive (state 0 (2 ^ 64 - 17)) [] p1 508, p1Received 16 (2 ^ 64 - 17))
+    ∷ (receive (state 0 (2 ^ 64 - 17)) [] (p1 ++ (0x00 ∷ [])) 508, noneReceived 12 0 0 (2 ^ 64 - 17) 508)
+    ∷ (receive (state 7 (2 ^ 64 - 10)) p1 (drop 7 p1) 508, p1Received 9 (2 ^ 64 - 17))
+    ∷ (receive (state 7 (2 ^ 64 - 9)) p1 (drop 7 p1) 508, noneReceived 12 0 7 (2 ^ 64 - 9) 508)
+    ∷ (receive (state 7 (2 ^ 64 - 9)) p1 (drop 7 p1) 507, noneReceived 5 0 7 (2 ^ 64 - 9) 507)
+    ∷ (receive (state 7 (2 ^ 64 - 1)) p1 [] 508, noneReceived 0 0 7 (2 ^ 64 - 1) 508)
+    ∷ (reset (state 7 40), 0 ∷ 40 ∷ [])
+    ∷ (reset (state 800 (2 ^ 64 - 1)), 0 ∷ (2 ^ 64 - 1) ∷ [])
     ∷ []
 
 -- a fault that was found: place, verdict and offset; then the byte there; for a wrong checksum also the byte wanted
@@ -306,5 +324,5 @@ abbrev table : List Row
 table = starred ++ (septets ++ (verdicts ++ (records ++ (recordings ++ (receptions ++ (faults ++ (blockSections ++ verdictNumbers)))))))
 
 samples : map (λ (row : Row). answer (row .0)) table ≡ map (λ (row : Row). row .1) table
-unfolding choose signed checksumFrom septetOf lowBits withTopBits anyHigh kindOf headerLength frameWidth frameCount streamLength payloadLength frameRule headerRule ruleAt breach faultAt blockWidth unusedFrames unusedIn countNonzero unusedSeptets validationFrom recordOf unframed commandIn payloadIn framed framesOf kindBytes streamAs streamWith streamOf unwritable Encodings.refusal deliveriesFrom Nexts.refusal streams roomRefusal beginning extended kept outcomeOf Receptions.refusal wantedAt faultsFrom nextFault cut someShort elementSize notBlock flatten
+unfolding choose signed checksumFrom septetOf lowBits withTopBits anyHigh kindOf headerLength frameWidth frameCount streamLength payloadLength frameRule headerRule ruleAt breach faultAt blockWidth unusedFrames unusedIn countNonzero unusedSeptets validationFrom recordOf unframed commandIn payloadIn framed framesOf kindBytes streamAs streamWith streamOf unwritable Encodings.refusal deliveriesFrom Nexts.refusal streams roomRefusal beginning extended kept outcomeOf heldIn Receptions.refusal wantedAt faultsFrom nextFault cut someShort elementSize notBlock flatten
 samples = refl

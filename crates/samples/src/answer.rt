@@ -80,10 +80,10 @@ pub fn row(header: Header, payload: &[u8]) {
     field::signed(record::value(back));
 }
 
-// The place and the length of a record that was found, and the record; or that there is none.
+// The position and the length of a record that was found, and the record; or that there is none.
 fn found(answer: recording::Found, payload: &[u8]) {
     if answer.found {
-        field::number(answer.place as u64);
+        field::number(answer.position);
         field::number(answer.length as u64);
         field::record(answer.header, payload);
     } else if answer.number == 0 {
@@ -99,30 +99,65 @@ pub fn next(recording: &[u8], start: usize, room: usize) {
     kept(&out, answer.payload_length);
 }
 
-// A record that was completed with so many bytes: their number, its stream's length, and itself.
-fn received(answer: receiver::Received, used: usize, payload: &[u8]) {
+// A record that was completed: its position, its stream's length, and itself.
+fn received(answer: receiver::Received, payload: &[u8]) {
     if answer.found {
-        field::number(used as u64);
+        field::number(answer.position);
         field::number(answer.length as u64);
         field::record(answer.header, part::first(payload, answer.payload_length));
     }
 }
 
-// A recording, byte after byte, to a fresh receiver with whatever in its memory; and how many bytes it holds at last.
-pub fn receive(recording: &[u8]) {
-    let mut state = receiver::Receiver { held: 0 };
+// How many bytes a receiver holds, and its position.
+fn state(receiver: receiver::Receiver) {
+    field::say(b"held");
+    field::number(receiver.held as u64);
+    field::say(b"position");
+    field::number(receiver.position);
+}
+
+// A recording, byte after byte, to a fresh receiver with whatever in its memory, which is reset when `reset` bytes are used.
+pub fn receive(recording: &[u8], reset: usize) {
+    let mut receiver = receiver::Receiver {
+        held: 0,
+        position: 0,
+    };
     let mut memory = [0xEEu8; 772];
     let mut used = 0;
     while used < recording.len() {
+        if used == reset {
+            receiver = receiver::reset(receiver);
+        }
         let byte = [recording[used]];
         let mut out = [0u8; 508];
-        let answer = receiver::receive(state, &mut memory, &byte, &mut out);
+        let answer = receiver::receive(receiver, &mut memory, &byte, &mut out);
         used += 1;
-        received(answer, used, &out);
-        state = answer.receiver;
+        received(answer, &out);
+        receiver = answer.receiver;
     }
-    field::say(b"held");
-    field::number(state.held as u64);
+    state(receiver);
+}
+
+// One chunk, to a receiver that holds nothing and whose count is `left` below the largest 64-bit number: the number, how many bytes were
+// used, the record, the receiver, and whether the rest of the output was kept.
+pub fn receive_last(chunk: &[u8], left: usize, room: usize) {
+    let receiver = receiver::Receiver {
+        held: 0,
+        position: 0xFFFF_FFFF_FFFF_FFFF - left as u64,
+    };
+    let mut memory = [0xEEu8; 772];
+    let mut out = UNTOUCHED;
+    let answer = receiver::receive(
+        receiver,
+        &mut memory,
+        chunk,
+        part::first_mut(&mut out, room),
+    );
+    field::number(answer.number as u64);
+    field::number(answer.used as u64);
+    received(answer, &out);
+    state(answer.receiver);
+    kept(&out, answer.payload_length);
 }
 
 // The place, the verdict and the offset of a fault, the byte found there and the byte wanted; or that there is none.

@@ -21,7 +21,7 @@ pub extern "C" fn vbus_next(input: &[u8], start: usize, payload: &mut [u8]) -> F
     Found {
         number: next.number,
         found: next.found,
-        place: next.place,
+        position: next.position,
         length: next.length,
         header,
         payload_length: next.payload_length,

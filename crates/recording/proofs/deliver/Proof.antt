@@ -1,4 +1,4 @@
--- `recording::deliver` meets its contract: the stream at the place is whole. Assumes nothing.
+-- `recording::deliver` meets its contract: the stream at the position is whole. Assumes nothing.
 use Prim.Native.Nat.{_≤_, _<_}
 use native.Mathlib.Omega.{arith}
 use mathlib.Core.Path.{_≡_, sym, _∙_}
@@ -21,7 +21,7 @@ part-header-end : tie.Need-part-header-end
 part-header-end c = search needs
 
 header-requires : tie.Need-header-requires
-header-requires c κs = simp (part, length-drop) (omega (arith, whole-long (drop (c .before .before .before .args .span .place) (c .before .before .before .args .input .now)) (c .before .before .before .pre .whole), length-drop (c .before .before .before .args .span .place) (c .before .before .before .args .input .now)))
+header-requires c κs = simp (part, length-drop) (omega (arith, whole-long (drop (c .before .before .before .args .span .position) (c .before .before .before .args .input .now)) (c .before .before .before .pre .whole), length-drop (c .before .before .before .args .span .position) (c .before .before .before .args .input .now)))
 
 sub-payload : tie.Need-sub-payload
 sub-payload c = search needs
@@ -45,12 +45,12 @@ returns : tie.Need-returns
 returns c =
     let args = c .before .before .before .before .before .before .before .before .before .before .before .args in
     let s = args .input .now in
-    let x = drop (args .span .place) s in
+    let x = drop (args .span .position) s in
     let out = args .out .now in
     let size : c .before .before .before .before .payload .result ≡ length (recordOf x .payload) = rw part at (c .before .before .before .before .payload .ensures .0) in
     let after = rw part at (c .before .before .before .before .payload .ensures .1) in
     let short : length out < length (recordOf x .payload) = omega (arith, size) in
-    (c .without .ensures ∙ sym (delivered-short s (args .span .place) (length out) short), after)
+    (c .without .ensures ∙ sym (delivered-short s (args .span .position) (length out) short), after)
 
 same-length-2 : tie.Need-same-length-2
 same-length-2 c = search needs
@@ -59,13 +59,13 @@ returns-2 : tie.Need-returns-2
 returns-2 c =
     let args = c .before .before .before .before .before .before .before .before .before .before .args in
     let s = args .input .now in
-    let x = drop (args .span .place) s in
+    let x = drop (args .span .position) s in
     let out = args .out .now in
     let size : c .before .before .before .payload .result ≡ length (recordOf x .payload) = rw part at (c .before .before .before .payload .ensures .0) in
     let after = rw part at (c .before .before .before .payload .ensures .1) in
     let fits : length (recordOf x .payload) ≤ length out = omega (arith, size) in
     let header = rw part at (c .before .before .before .before .before .before .header .ensures) in
-    (rw (header, size, c .before .before .before .before .before .before .before .before .before .before .pre .sized) (sym (delivered-fits s (args .span .place) (length out) fits)), after)
+    (rw (header, size, c .before .before .before .before .before .before .before .before .before .before .pre .sized) (sym (delivered-fits s (args .span .position) (length out) fits)), after)
 
 pub deliver-spec : {M : Type 1} → statement M
 deliver-spec =

@@ -98,7 +98,7 @@ loop-again c =
     let s = c .before .before .before .before .before .before .before .before .before .before .before .before .args .input .now in
     let loop = c .before .before .before .before .before .before .before .before .before .loop in
     let found = search-found s (loop .at) _ _ (c .before .before .before .before .before .before .before .before .first-whole .ensures) (c .before .before .before .before .before .before .span .given .1) in
-    let stream = streamOf (recordOf (drop (c .before .before .before .before .before .before .span .given .0 .0 .place) s)) in
+    let stream = streamOf (recordOf (drop (c .before .before .before .before .before .before .span .given .0 .0 .position) s)) in
     let one = c .before .before .one in
     let size = found-length s (loop .at) _ found in (
       loop .inv .0 ++ stream,

@@ -89,7 +89,7 @@ returns-2 c =
     let at = after-sync s (sync .before .loop .at) r (next-sync s _ r (sync .next-sync .ensures)) in
     let answer = rw part at (c .before .before .first-fault .ensures) in
     let here = after-here s r (sym (ap (λ (a : Stop). a .verdict) answer) ∙ c .if2 .taken) in
-    ap (λ (a : Stop). At (record { place = r; length = a .offset; «unused_septets» = a .«unused_septets» })) answer ∙ ap (searched s) (sym here ∙ sym at ∙ sync .before .loop .inv)
+    ap (λ (a : Stop). At (record { position = r; length = a .offset; «unused_septets» = a .«unused_septets» })) answer ∙ ap (searched s) (sym here ∙ sym at ∙ sync .before .loop .inv)
 
 pub first-whole-spec : {M : Type 1} → statement M
 first-whole-spec =

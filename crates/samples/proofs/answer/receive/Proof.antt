@@ -7,13 +7,16 @@ use Rattle.samples.proofs.answer.receive.Statement.{statement}
 use Rattle.samples.proofs.answer.receive.Tie as tie
 
 abbrev Inv-loop : tie.InvT-loop
-Inv-loop recording state₀ memory₀ used₀ t8 state memory used = Unit {0}
+Inv-loop recording reset receiver₀ memory₀ used₀ receiver memory used = Unit {0}
 
 abbrev μ-loop : tie.MeasureT-loop
-μ-loop recording state₀ memory₀ used₀ t8 state memory used = length recording - used
+μ-loop recording reset receiver₀ memory₀ used₀ receiver memory used = length recording - used
 
 loop-holds : tie.Need-loop-holds Inv-loop μ-loop
 loop-holds c = search needs
+
+reset-requires : tie.Need-reset-requires Inv-loop μ-loop
+reset-requires c κs = search needs
 
 shared-slice-read-t12 : tie.Need-shared-slice-read-t12 Inv-loop μ-loop
 shared-slice-read-t12 c = omega arith
@@ -42,14 +45,8 @@ loop-less c = omega arith
 loop-again : tie.Need-loop-again Inv-loop μ-loop
 loop-again c = search needs
 
-slice-aggregate-say : tie.Need-slice-aggregate-say Inv-loop μ-loop
-slice-aggregate-say c = search needs
-
-say-requires : tie.Need-say-requires Inv-loop μ-loop
-say-requires c κs = search needs
-
-number-requires : tie.Need-number-requires Inv-loop μ-loop
-number-requires c κs = search needs
+state-requires : tie.Need-state-requires Inv-loop μ-loop
+state-requires c κs = search needs
 
 returns : tie.Need-returns Inv-loop μ-loop
 returns c = search needs
@@ -61,6 +58,7 @@ receive-spec =
     Inv-loop
     μ-loop
     loop-holds
+    reset-requires
     shared-slice-read-t12
     slice-aggregate-receive
     slice-aggregate-receive-2
@@ -70,7 +68,5 @@ receive-spec =
     received-requires
     loop-less
     loop-again
-    slice-aggregate-say
-    say-requires
-    number-requires
+    state-requires
     returns)
