@@ -84,7 +84,7 @@ static int list(const uint8_t *recording, size_t size) {
         vbus_found next = vbus_next(recording, size, start, payload, sizeof payload);
         if (!next.found) break;
         if (!print_record(next.header, payload, next.payload_length)) return failure("standard output");
-        start = next.place + next.length;
+        start = (size_t)next.position + next.length;
         records++;
     }
     if (close_output() != 0) return 1;

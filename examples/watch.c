@@ -3,7 +3,10 @@
  * payload, in upper-case hex, as examples/list.c does. Damaged streams are passed over.
  *
  *   gcc -std=c99 -Iinclude examples/watch.c target/staticlib/libvbus.a -o target/watch-c
- *   target/watch-c DEVICE, or target/watch-c < FILE
+ *   target/watch-c [-p] DEVICE, or target/watch-c [-p] < FILE
+ *
+ * With -p, or --positions, each line begins with the position of the record's first byte, in decimal: how many bytes
+ * were read before it.
  *
  * A serial port is set to 9600 bits a second, 8N1, raw, and put back as it was at the end, also where SIGHUP, SIGINT,
  * SIGQUIT, SIGTERM or SIGPIPE ends the program. Nothing is ever sent. A file, a FIFO or a pipe is read as it is, up to
@@ -15,6 +18,7 @@
 #define _POSIX_C_SOURCE 200809L /* termios, sigaction */
 #include <errno.h>
 #include <fcntl.h>
+#include <inttypes.h>
 #include <poll.h>
 #include <signal.h>
 #include <stdio.h>
@@ -25,7 +29,9 @@
 
 #include "vbus.h"
 
-static const char usage[] = "usage: watch DEVICE, or watch < FILE; a serial port must be named\n";
+static const char usage[] =
+    "usage: watch [-p] DEVICE, or watch [-p] < FILE; a serial port must be named\n"
+    "-p, --positions: each line begins with the position of the record's first byte\n";
 
 typedef struct {
     int descriptor;
@@ -36,7 +42,7 @@ typedef struct {
 typedef struct {
     vbus_receiver receiver;
     uint8_t memory[VBUS_MAX_STREAM];
-    unsigned long long bytes; /* taken in so far: after 50 days more than 32 bits hold */
+    bool positions; /* wanted before the lines */
     bool found;
 } progress;
 
@@ -156,15 +162,15 @@ static bool print_record(vbus_header header, const uint8_t *payload, size_t n) {
 /* Prints each record that the chunk completes; what is unfinished stays in the memory for the next chunk. */
 static bool take_in(progress *so_far, const uint8_t *chunk, size_t n) {
     uint8_t payload[VBUS_MAX_PAYLOAD];
-    so_far->bytes += n;
     for (size_t at = 0; at < n;) {
-        /* can't refuse: the room suffices for any record */
+        /* can't refuse: the room suffices for any record, and to count up to 2^64 bytes a bus takes 600 million years */
         vbus_received next =
             vbus_receive(so_far->receiver, so_far->memory, chunk + at, n - at, payload, sizeof payload);
         so_far->receiver = next.receiver;
         at += next.used;
         if (!next.found) continue;
         so_far->found = true;
+        if (so_far->positions) printf("%" PRIu64 " ", next.position);
         if (!print_record(next.header, payload, next.payload_length)) return false;
     }
     return true;
@@ -178,8 +184,8 @@ static int end(const progress *so_far) {
     if (close_output() != 0) return 1;
     if (so_far->receiver.held > 0)
         fprintf(stderr, "watch: the input ended before a stream was complete, bytes held: %zu\n", so_far->receiver.held);
-    if (!so_far->found && so_far->bytes > 0)
-        fprintf(stderr, "watch: no record found, bytes looked at: %llu\n", so_far->bytes);
+    if (!so_far->found && so_far->receiver.position > 0)
+        fprintf(stderr, "watch: no record found, bytes looked at: %" PRIu64 "\n", so_far->receiver.position);
     return 0;
 }
 
@@ -193,8 +199,8 @@ static ssize_t read_chunk(int descriptor, uint8_t *chunk, size_t room) {
     }
 }
 
-static int watch(const source *from) {
-    progress so_far = {{0}, {0}, 0, false};
+static int watch(const source *from, bool positions) {
+    progress so_far = {{0, 0}, {0}, positions, false};
     uint8_t chunk[4096];
     for (;;) {
         ssize_t n = read_chunk(from->descriptor, chunk, sizeof chunk);
@@ -204,19 +210,26 @@ static int watch(const source *from) {
     }
 }
 
+static bool is_option(const char *word, const char *brief, const char *full) {
+    return strcmp(word, brief) == 0 || strcmp(word, full) == 0;
+}
+
 int main(int argc, char **argv) {
-    if (argc == 2 && (strcmp(argv[1], "--help") == 0 || strcmp(argv[1], "-h") == 0)) {
+    bool positions = argc > 1 && is_option(argv[1], "-p", "--positions");
+    int names = argc - (positions ? 2 : 1);
+    if (names == 1 && is_option(argv[argc - 1], "-h", "--help")) {
         fputs(usage, stdout);
         return close_output();
     }
+    bool other = names == 1 && argv[argc - 1][0] == '-'; /* an option that there isn't */
     /* at a terminal the device was forgotten; one that is a port would be changed without being named */
-    if (argc > 2 || (argc < 2 && isatty(STDIN_FILENO))) {
+    if (names > 1 || other || (names < 1 && isatty(STDIN_FILENO))) {
         fputs(usage, stderr);
         return 2;
     }
-    source from = {STDIN_FILENO, argc == 2 ? argv[1] : "standard input", false};
-    int status = argc == 2 ? open_source(&from) : 0;
-    if (status == 0) status = watch(&from);
+    source from = {STDIN_FILENO, names == 1 ? argv[argc - 1] : "standard input", false};
+    int status = names == 1 ? open_source(&from) : 0;
+    if (status == 0) status = watch(&from, positions);
     put_back();
     return status;
 }

@@ -2,7 +2,7 @@
 //! command and payload in hex, as examples/list.rs does.
 //!
 //! In `rust`: `cargo run --example watch -- /dev/ttyUSB0`, or without a name and a file, FIFO or pipe
-//! as standard input.
+//! as standard input. `-p` or `--positions` before the name puts each record's position before it.
 //!
 //! A serial port is read as it is set, since std can't set one: before,
 //! `stty -F /dev/ttyUSB0 9600 raw cs8 -parenb -cstopb -crtscts -ixoff -echo clocal` sets it as the bus
@@ -19,12 +19,13 @@ use std::path::{Path, PathBuf};
 use std::process::ExitCode;
 use std::{env, fmt, process};
 
-use vbus::RecordReader;
+use vbus::{Entry, RecordReader};
 
 const USAGE: &str = "\
-usage: watch DEVICE, or watch < FILE; a serial port must be named
+usage: watch [-p] DEVICE, or watch [-p] < FILE; a serial port must be named
 Prints the VBus records that arrive, one line each: kind letter, destination, source, version,
 command and payload in hex. A serial port is read as it is set.
+  -p, --positions  before each record its position: how many bytes came before its 0xAA
 ";
 
 /// EIO, which a terminal device that is gone may answer with.
@@ -36,26 +37,13 @@ const NO_CONTROLLING_TERMINAL: i32 = 0o400;
 /// What there is to do.
 enum Task {
     Help,
-    Device(PathBuf),
-    StandardInput,
-}
-
-/// A reader that counts the bytes read.
-struct Counted<R> {
-    reader: R,
-    bytes: u64,
-}
-
-impl<R: Read> Read for Counted<R> {
-    fn read(&mut self, buffer: &mut [u8]) -> io::Result<usize> {
-        let n = self.reader.read(buffer)?;
-        self.bytes += n as u64;
-        Ok(n)
-    }
+    /// The device, or standard input; and whether positions are printed.
+    Watch(Option<PathBuf>, bool),
 }
 
 fn main() -> ExitCode {
-    let Some(task) = task(env::args_os().skip(1).collect()) else {
+    let arguments: Vec<OsString> = env::args_os().skip(1).collect();
+    let Some(task) = task(&arguments) else {
         say(USAGE);
         return ExitCode::from(2);
     };
@@ -69,11 +57,16 @@ fn main() -> ExitCode {
 }
 
 /// What the arguments ask for, or `None` if that can't be done.
-fn task(mut arguments: Vec<OsString>) -> Option<Task> {
-    match (arguments.pop(), arguments.is_empty()) {
-        (Some(help), true) if help == "--help" || help == "-h" => Some(Task::Help),
-        (Some(device), true) => Some(Task::Device(device.into())),
-        (None, _) if !io::stdin().is_terminal() => Some(Task::StandardInput),
+fn task(arguments: &[OsString]) -> Option<Task> {
+    let (positions, words) = match arguments {
+        [option, words @ ..] if option == "-p" || option == "--positions" => (true, words),
+        words => (false, words),
+    };
+    match words {
+        [help] if help == "--help" || help == "-h" => Some(Task::Help),
+        [option] if option.as_encoded_bytes().starts_with(b"-") => None,
+        [device] => Some(Task::Watch(Some(device.into()), positions)),
+        [] if !io::stdin().is_terminal() => Some(Task::Watch(None, positions)),
         _ => None,
     }
 }
@@ -82,14 +75,16 @@ fn task(mut arguments: Vec<OsString>) -> Option<Task> {
 fn run(task: Task) -> Result<(), String> {
     match task {
         Task::Help => write_out(USAGE),
-        Task::Device(name) => match open(&name) {
+        Task::Watch(Some(name), positions) => match open(&name) {
             Ok(device) => {
                 let port = device.is_terminal();
-                watch(device, name.display(), port)
+                watch(device, name.display(), port, positions)
             }
             Err(error) => Err(failure(name.display(), &error)),
         },
-        Task::StandardInput => watch(io::stdin().lock(), "standard input", false),
+        Task::Watch(None, positions) => {
+            watch(io::stdin().lock(), "standard input", false, positions)
+        }
     }
 }
 
@@ -105,14 +100,30 @@ fn failure(what: impl fmt::Display, error: &io::Error) -> String {
     format!("watch: {what}: {error}\n")
 }
 
+fn line(entry: &Entry, positions: bool) -> String {
+    let Entry {
+        position, record, ..
+    } = entry;
+    if positions {
+        format!("{position} {record}\n")
+    } else {
+        format!("{record}\n")
+    }
+}
+
 /// Prints each record of the input. `port`: it is a terminal device, which has no end but that it is
 /// gone.
-fn watch(reader: impl Read, name: impl fmt::Display, port: bool) -> Result<(), String> {
-    let mut records = RecordReader::new(Counted { reader, bytes: 0 });
+fn watch(
+    reader: impl Read,
+    name: impl fmt::Display,
+    port: bool,
+    positions: bool,
+) -> Result<(), String> {
+    let mut records = RecordReader::new(reader);
     let mut found = false;
-    for record in &mut records {
-        match record {
-            Ok(record) => write_out(&format!("{record}\n"))?,
+    for entry in &mut records {
+        match entry {
+            Ok(entry) => write_out(&line(&entry, positions))?,
             Err(error) if port && error.raw_os_error() == Some(INPUT_OUTPUT_ERROR) => break,
             Err(error) => return Err(failure(name, &error)),
         }
@@ -127,7 +138,7 @@ fn watch(reader: impl Read, name: impl fmt::Display, port: bool) -> Result<(), S
             "watch: the input ended before a stream was complete, bytes held: {held}\n"
         ));
     }
-    let n = records.get_ref().bytes;
+    let n = records.receiver().position();
     if !found && n > 0 {
         say(&format!("watch: no record found, bytes looked at: {n}\n"));
     }

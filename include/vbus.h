@@ -38,7 +38,7 @@
 
 /* The version of this library, not of a stream. */
 #define VBUS_VERSION_MAJOR 0
-#define VBUS_VERSION_MINOR 4
+#define VBUS_VERSION_MINOR 5
 #define VBUS_VERSION_PATCH 0
 
 /* The longest payload and the longest stream, both those of a packet with 127 frames. */
@@ -69,7 +69,8 @@ enum vbus_refusal {
     VBUS_NOT_BLOCK_PACKET = 8,      /* the header or the payload's length isn't a block packet's */
     VBUS_SECTION_PAST_END = 9,      /* a section runs past the payload's end */
     VBUS_NO_SUCH_PART = 10,         /* no section or element has that number */
-    VBUS_UNKNOWN_SECTION_TYPE = 11  /* no element size is known for the section's type */
+    VBUS_UNKNOWN_SECTION_TYPE = 11, /* no element size is known for the section's type */
+    VBUS_POSITION_OVERFLOW = 12     /* a receiver's position would pass the largest 64-bit number */
 };
 
 /* A record is this and a payload: 4 bytes a frame in a packet (0 to 127 frames); 6 bytes in a datagram (2 of
@@ -89,7 +90,8 @@ typedef struct {
 typedef struct {
     uint32_t number;
     bool found;
-    size_t place, length; /* where the stream begins in the input, and how many bytes it has */
+    uint64_t position; /* of the stream's 0xAA, counted from the input's first byte, wherever the search began */
+    size_t length; /* bytes of the stream */
     vbus_header header;
     size_t payload_length; /* bytes written to the payload buffer */
 } vbus_found;
@@ -108,12 +110,15 @@ typedef struct {
 /* A receiver between two calls, with its memory. All zero bytes are a fresh one. */
 typedef struct {
     size_t held; /* bytes of a stream that isn't complete, at the start of the memory */
+    uint64_t position; /* bytes used so far: the position that the next byte has */
 } vbus_receiver;
 
 typedef struct {
     uint32_t number;
     bool found;
-    size_t used, length; /* bytes of the chunk that were used, and how many the stream has */
+    size_t used; /* bytes of the chunk that were used */
+    uint64_t position; /* of the stream's 0xAA, counted from the first byte that the fresh receiver got */
+    size_t length; /* bytes of the stream */
     vbus_header header;
     size_t payload_length; /* bytes written to the payload buffer */
     vbus_receiver receiver; /* to hand over with the next call */
@@ -173,7 +178,7 @@ enum vbus_verdict {
 vbus_validation vbus_validate(const uint8_t *input, size_t n);
 
 /* Finds the first whole stream (VBUS_VERDICT_WHOLE) that begins at `start` or later, and reads its record. To read a
- * whole recording call again from place + length. Where there is none `found` is false and every other field 0.
+ * whole recording call again from position + length. Where there is none `found` is false and every other field 0.
  * Where found, the record's payload stands at the start of `payload`; the bytes behind it stay. Where there is none
  * `payload` stays as it was. A room of VBUS_MAX_PAYLOAD always suffices.
  *   VBUS_START_PAST_END (6): start is above n (start == n is fine: there is none)
@@ -196,14 +201,18 @@ vbus_fault vbus_next_fault(const uint8_t *input, size_t n, size_t start);
  * alone. Behind the bytes held, `memory` may hold anything.
  * Where found, `used` counts up to the stream's last byte: hand the rest of the chunk over in the next call. The payload
  * stands at the start of `payload`; the bytes behind it stay. Where there is none, `used` is n, `payload` stays as it
- * was, and `length`, `header` and `payload_length` are 0.
- * A recording, fed to a fresh receiver until it is used up, gives just the records that vbus_next finds in it. Whatever
- * receiver and memory are handed in, nothing is delivered but a whole stream that ends with the last byte used.
- *   VBUS_OUTPUT_TOO_SHORT (5): room is less than VBUS_MAX_PAYLOAD, whatever this chunk brings; nothing is used */
+ * was, and `position`, `length`, `header` and `payload_length` are 0. Either way the receiver's position grows by `used`.
+ * A recording, fed to a fresh receiver until it is used up, gives just the records that vbus_next finds in it, with
+ * their positions. Whatever receiver and memory are handed in, nothing is delivered but a whole stream that ends with
+ * the last byte used. A receiver that holds 0 bytes may be given any position to count on from.
+ *   VBUS_OUTPUT_TOO_SHORT (5): room is less than VBUS_MAX_PAYLOAD, whatever this chunk brings; nothing is used
+ *   VBUS_POSITION_OVERFLOW (12): the receiver's position and n make more than UINT64_MAX; nothing is used. From 0 on the
+ *     bus, at 960 bytes a second, takes 600 million years to get there */
 vbus_received vbus_receive(vbus_receiver receiver, uint8_t memory[VBUS_MAX_STREAM], const uint8_t *chunk, size_t n,
                            uint8_t *payload, size_t room);
 
-/* Forgets the unfinished stream, and only that: what follows is received as by a fresh receiver. */
+/* Forgets the unfinished stream, and only that: what follows is received as by a fresh receiver, but that the positions
+ * go on, up to VBUS_POSITION_OVERFLOW. */
 vbus_receiver vbus_reset(vbus_receiver receiver);
 
 /* Writes a record's stream to the start of `out`; the bytes behind it stay. A packet needs 10 bytes and 6 a frame, a

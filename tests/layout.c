@@ -49,8 +49,8 @@ static vbus_header header(uint8_t version, uint16_t destination, uint16_t source
     return made;
 }
 
-static int found_is(vbus_found a, uint32_t number, int found, size_t place, size_t length, vbus_header h, size_t payload_length) {
-    return a.number == number && (int)a.found == found && a.place == place && a.length == length &&
+static int found_is(vbus_found a, uint32_t number, int found, uint64_t position, size_t length, vbus_header h, size_t payload_length) {
+    return a.number == number && (int)a.found == found && a.position == position && a.length == length &&
            a.header.version == h.version && a.header.destination == h.destination && a.header.source == h.source &&
            a.header.command == h.command && a.payload_length == payload_length;
 }
@@ -58,15 +58,17 @@ static int nothing_found(vbus_found a, uint32_t number) {
     const vbus_header none = {0, 0, 0, 0};
     return found_is(a, number, 0, 0, 0, none, 0);
 }
-static int received_is(vbus_received a, size_t used, size_t length, vbus_header h, size_t payload_length) {
-    return a.number == 0 && (int)a.found == 1 && a.used == used && a.length == length &&
+static int receiver_is(vbus_receiver a, size_t held, uint64_t position) { return a.held == held && a.position == position; }
+static int received_is(vbus_received a, size_t used, uint64_t position, size_t length, vbus_header h, size_t payload_length) {
+    return a.number == 0 && (int)a.found == 1 && a.used == used && a.position == position && a.length == length &&
            a.header.version == h.version && a.header.destination == h.destination && a.header.source == h.source &&
-           a.header.command == h.command && a.payload_length == payload_length && a.receiver.held == 0;
+           a.header.command == h.command && a.payload_length == payload_length &&
+           receiver_is(a.receiver, 0, position + length);
 }
-static int nothing_received(vbus_received a, uint32_t number, size_t used, size_t held) {
-    return a.number == number && (int)a.found == 0 && a.used == used && a.length == 0 && a.header.version == 0 &&
-           a.header.destination == 0 && a.header.source == 0 && a.header.command == 0 && a.payload_length == 0 &&
-           a.receiver.held == held;
+static int nothing_received(vbus_received a, uint32_t number, size_t used, size_t held, uint64_t position) {
+    return a.number == number && (int)a.found == 0 && a.used == used && a.position == 0 && a.length == 0 &&
+           a.header.version == 0 && a.header.destination == 0 && a.header.source == 0 && a.header.command == 0 &&
+           a.payload_length == 0 && receiver_is(a.receiver, held, position);
 }
 static int written_is(vbus_written a, uint32_t number, size_t length) { return a.number == number && a.length == length; }
 static int count_is(vbus_count a, uint32_t number, size_t count) { return a.number == number && a.count == count; }
@@ -114,6 +116,7 @@ static const struct {
     NUMBER(VBUS_SECTION_PAST_END, 9),
     NUMBER(VBUS_NO_SUCH_PART, 10),
     NUMBER(VBUS_UNKNOWN_SECTION_TYPE, 11),
+    NUMBER(VBUS_POSITION_OVERFLOW, 12),
     NUMBER(VBUS_VERDICT_WHOLE, 0),
     NUMBER(VBUS_VERDICT_NO_SYNC, 1),
     NUMBER(VBUS_VERDICT_HIGH_BYTE, 2),
@@ -138,16 +141,16 @@ static void layouts(void) {
     CHECK(sizeof(vbus_validation) == 24 && offsetof(vbus_validation, verdict) == 0 && offsetof(vbus_validation, offset) == 8 &&
           offsetof(vbus_validation, unused_septets) == 16);
     CHECK(sizeof(vbus_found) == 40 && offsetof(vbus_found, number) == 0 && offsetof(vbus_found, found) == 4 &&
-          offsetof(vbus_found, place) == 8 && offsetof(vbus_found, length) == 16 && offsetof(vbus_found, header) == 24 &&
+          offsetof(vbus_found, position) == 8 && offsetof(vbus_found, length) == 16 && offsetof(vbus_found, header) == 24 &&
           offsetof(vbus_found, payload_length) == 32);
     CHECK(sizeof(vbus_fault) == 40 && offsetof(vbus_fault, found) == 0 && offsetof(vbus_fault, place) == 8 &&
           offsetof(vbus_fault, verdict) == 16 && offsetof(vbus_fault, offset) == 24 && offsetof(vbus_fault, has_byte) == 32 &&
           offsetof(vbus_fault, byte) == 33 && offsetof(vbus_fault, has_wanted) == 34 && offsetof(vbus_fault, wanted) == 35);
-    CHECK(sizeof(vbus_receiver) == 8 && offsetof(vbus_receiver, held) == 0 && WIDTH(vbus_receiver, held) == 8);
-    CHECK(sizeof(vbus_received) == 48 && offsetof(vbus_received, number) == 0 && offsetof(vbus_received, found) == 4 &&
-          offsetof(vbus_received, used) == 8 && offsetof(vbus_received, length) == 16 &&
-          offsetof(vbus_received, header) == 24 && offsetof(vbus_received, payload_length) == 32 &&
-          offsetof(vbus_received, receiver) == 40);
+    CHECK(sizeof(vbus_receiver) == 16 && offsetof(vbus_receiver, held) == 0 && offsetof(vbus_receiver, position) == 8);
+    CHECK(sizeof(vbus_received) == 64 && offsetof(vbus_received, number) == 0 && offsetof(vbus_received, found) == 4 &&
+          offsetof(vbus_received, used) == 8 && offsetof(vbus_received, position) == 16 &&
+          offsetof(vbus_received, length) == 24 && offsetof(vbus_received, header) == 32 &&
+          offsetof(vbus_received, payload_length) == 40 && offsetof(vbus_received, receiver) == 48);
     CHECK(sizeof(vbus_written) == 16 && offsetof(vbus_written, number) == 0 && offsetof(vbus_written, length) == 8);
     CHECK(sizeof(vbus_count) == 16 && offsetof(vbus_count, number) == 0 && offsetof(vbus_count, count) == 8);
     CHECK(sizeof(vbus_part) == 24 && offsetof(vbus_part, number) == 0 && offsetof(vbus_part, start) == 8 &&
@@ -156,9 +159,11 @@ static void layouts(void) {
           offsetof(vbus_septets, length) == 16 && offsetof(vbus_septets, septet) == 24);
     CHECK(sizeof(bool) == 1 && WIDTH(vbus_validation, verdict) == 1 && WIDTH(vbus_validation, offset) == 8 &&
           WIDTH(vbus_validation, unused_septets) == 8 && WIDTH(vbus_found, number) == 4 &&
-          WIDTH(vbus_found, payload_length) == 8 && WIDTH(vbus_fault, place) == 8 && WIDTH(vbus_fault, verdict) == 1 &&
-          WIDTH(vbus_fault, offset) == 8 && WIDTH(vbus_fault, wanted) == 1 && WIDTH(vbus_received, number) == 4 &&
-          WIDTH(vbus_received, found) == 1 && WIDTH(vbus_received, used) == 8 && WIDTH(vbus_written, number) == 4 &&
+          WIDTH(vbus_found, position) == 8 && WIDTH(vbus_found, payload_length) == 8 && WIDTH(vbus_fault, place) == 8 &&
+          WIDTH(vbus_fault, verdict) == 1 && WIDTH(vbus_fault, offset) == 8 && WIDTH(vbus_fault, wanted) == 1 &&
+          WIDTH(vbus_receiver, held) == 8 && WIDTH(vbus_receiver, position) == 8 && WIDTH(vbus_received, number) == 4 &&
+          WIDTH(vbus_received, found) == 1 && WIDTH(vbus_received, used) == 8 && WIDTH(vbus_received, position) == 8 &&
+          WIDTH(vbus_received, payload_length) == 8 && WIDTH(vbus_written, number) == 4 &&
           WIDTH(vbus_written, length) == 8 && WIDTH(vbus_count, number) == 4 && WIDTH(vbus_count, count) == 8 &&
           WIDTH(vbus_part, number) == 4 && WIDTH(vbus_part, length) == 8 && WIDTH(vbus_septets, number) == 4 &&
           WIDTH(vbus_septets, septet) == 1);
@@ -307,9 +312,9 @@ static void telling_faults(void) {
     CHECK(memcmp(input, before, MIXED) == 0);
 }
 
-static const vbus_receiver fresh = {0};
-/* a number that no 32 bits hold */
-static const vbus_receiver no_receiver = {0xFEDCBA9876543210};
+static const vbus_receiver fresh = {0, 0};
+/* numbers that no 32 bits hold; so many bytes can't be held */
+static const vbus_receiver no_receiver = {0xFEDCBA9876543210, 0xFEDCBA9800000000};
 
 /* the recording in two chunks, the packet cut after 25 bytes; the bytes behind the memory and the payload stay */
 static void receiving(void) {
@@ -318,24 +323,24 @@ static void receiving(void) {
     paint(memory, sizeof memory);
     paint(payload, sizeof payload);
     vbus_received answer = vbus_receive(fresh, memory, input, 28, payload, VBUS_MAX_PAYLOAD);
-    CHECK(nothing_received(answer, 0, 28, 25) && memcmp(memory, input + 3, 25) == 0);
+    CHECK(nothing_received(answer, 0, 28, 25, 28) && memcmp(memory, input + 3, 25) == 0);
     CHECK(painted(payload, 0, sizeof payload));
     memcpy(before, memory, sizeof before);
     const vbus_received refused = vbus_receive(answer.receiver, memory, input + 28, MIXED - 28, payload, 507);
-    CHECK(nothing_received(refused, VBUS_OUTPUT_TOO_SHORT, 0, 25) && memcmp(memory, before, sizeof before) == 0);
+    CHECK(nothing_received(refused, VBUS_OUTPUT_TOO_SHORT, 0, 25, 28) && memcmp(memory, before, sizeof before) == 0);
     CHECK(painted(payload, 0, sizeof payload));
     answer = vbus_receive(refused.receiver, memory, input + 28, MIXED - 28, payload, VBUS_MAX_PAYLOAD);
-    CHECK(received_is(answer, 15, 40, packet_header(), 20));
+    CHECK(received_is(answer, 15, 3, 40, packet_header(), 20));
     CHECK(memcmp(payload, payload20, 20) == 0 && painted(payload, 20, sizeof payload));
     paint(payload, sizeof payload);
     answer = vbus_receive(answer.receiver, memory, input + 43, MIXED - 43, payload, sizeof payload);
-    CHECK(received_is(answer, 17, 17, telegram_header(), 7));
+    CHECK(received_is(answer, 17, 43, 17, telegram_header(), 7));
     CHECK(memcmp(payload, telegram_payload, 7) == 0 && painted(payload, 7, sizeof payload));
     paint(payload, sizeof payload);
     answer = vbus_receive(answer.receiver, memory, input + 60, MIXED - 60, payload, sizeof payload);
-    CHECK(received_is(answer, 8, 8, clearance_header(), 0) && painted(payload, 0, sizeof payload));
+    CHECK(received_is(answer, 8, 60, 8, clearance_header(), 0) && painted(payload, 0, sizeof payload));
     answer = vbus_receive(answer.receiver, memory, input + 68, MIXED - 68, payload, sizeof payload);
-    CHECK(received_is(answer, 16, 16, datagram_header(), 6));
+    CHECK(received_is(answer, 16, 68, 16, datagram_header(), 6));
     CHECK(painted(memory, VBUS_MAX_STREAM, sizeof memory));
 }
 
@@ -344,24 +349,53 @@ static void receiving_the_longest(void) {
     paint(expected, sizeof expected);
     packet_with(expected, 127, stream);
     vbus_received answer = vbus_receive(fresh, memory, stream, 771, payload, sizeof payload);
-    CHECK(nothing_received(answer, 0, 771, 771) && memcmp(memory, stream, 771) == 0);
+    CHECK(nothing_received(answer, 0, 771, 771, 771) && memcmp(memory, stream, 771) == 0);
     answer = vbus_receive(answer.receiver, memory, stream + 771, 1, payload, sizeof payload);
-    CHECK(received_is(answer, 1, 772, packet_header(), 508) && memcmp(payload, expected, sizeof expected) == 0);
+    CHECK(received_is(answer, 1, 0, 772, packet_header(), 508) && memcmp(payload, expected, sizeof expected) == 0);
 }
 
 static void resetting(void) {
     uint8_t memory[VBUS_MAX_STREAM], payload[VBUS_MAX_PAYLOAD];
     vbus_received answer = vbus_receive(fresh, memory, clearance, 7, payload, sizeof payload);
-    CHECK(nothing_received(answer, 0, 7, 7));
+    CHECK(nothing_received(answer, 0, 7, 7, 7));
     const vbus_receiver reset = vbus_reset(answer.receiver);
-    CHECK(reset.held == 0);
-    CHECK(nothing_received(vbus_receive(reset, memory, clearance + 7, 1, payload, sizeof payload), 0, 1, 0));
-    CHECK(received_is(vbus_receive(reset, memory, clearance, 8, payload, sizeof payload), 8, 8, clearance_header(), 0));
+    CHECK(receiver_is(reset, 0, 7));
+    CHECK(nothing_received(vbus_receive(reset, memory, clearance + 7, 1, payload, sizeof payload), 0, 1, 0, 8));
+    CHECK(received_is(vbus_receive(reset, memory, clearance, 8, payload, sizeof payload), 8, 7, 8, clearance_header(), 0));
     /* a receiver that no call gave: as it was after a refusal, else as one that holds nothing */
     answer = vbus_receive(no_receiver, memory, clearance, 8, payload, 507);
-    CHECK(nothing_received(answer, VBUS_OUTPUT_TOO_SHORT, 0, no_receiver.held));
-    CHECK(nothing_received(vbus_receive(no_receiver, memory, clearance, 7, payload, sizeof payload), 0, 7, 7));
-    CHECK(vbus_reset(no_receiver).held == 0);
+    CHECK(nothing_received(answer, VBUS_OUTPUT_TOO_SHORT, 0, no_receiver.held, no_receiver.position));
+    answer = vbus_receive(no_receiver, memory, clearance, 7, payload, sizeof payload);
+    CHECK(nothing_received(answer, 0, 7, 7, no_receiver.position + 7));
+    CHECK(receiver_is(vbus_reset(no_receiver), 0, no_receiver.position));
+    /* one that says more bytes held than used */
+    memcpy(memory, clearance, 7);
+    const vbus_receiver ahead = {7, 6};
+    CHECK(nothing_received(vbus_receive(ahead, memory, clearance + 7, 1, payload, sizeof payload), 0, 1, 0, 7));
+}
+
+/* a count of 2^64 - 1 less n, with chunks of n - 1, n and n + 1 bytes; then one that holds seven of eight bytes */
+static void counting_to_the_end(void) {
+    uint8_t memory[VBUS_MAX_STREAM], before[VBUS_MAX_STREAM], payload[VBUS_MAX_PAYLOAD], nine[9] = {0};
+    memcpy(nine, clearance, 8);
+    paint(memory, sizeof memory);
+    paint(payload, sizeof payload);
+    memcpy(before, memory, sizeof before);
+    const vbus_receiver eight = {0, UINT64_MAX - 8};
+    CHECK(nothing_received(vbus_receive(eight, memory, nine, 9, payload, 507), VBUS_OUTPUT_TOO_SHORT, 0, 0, UINT64_MAX - 8));
+    CHECK(nothing_received(vbus_receive(eight, memory, nine, 9, payload, 508), VBUS_POSITION_OVERFLOW, 0, 0, UINT64_MAX - 8));
+    CHECK(memcmp(memory, before, sizeof before) == 0 && painted(payload, 0, sizeof payload));
+    CHECK(nothing_received(vbus_receive(eight, memory, nine, 7, payload, 508), 0, 7, 7, UINT64_MAX - 1));
+    CHECK(received_is(vbus_receive(eight, memory, nine, 8, payload, 508), 8, UINT64_MAX - 8, 8, clearance_header(), 0));
+    memcpy(memory, clearance, 7);
+    memcpy(before, memory, sizeof before);
+    const vbus_receiver one = {7, UINT64_MAX - 1}, none = {7, UINT64_MAX};
+    CHECK(nothing_received(vbus_receive(one, memory, nine + 7, 2, payload, 508), VBUS_POSITION_OVERFLOW, 0, 7, UINT64_MAX - 1));
+    CHECK(nothing_received(vbus_receive(none, memory, nine + 7, 1, payload, 508), VBUS_POSITION_OVERFLOW, 0, 7, UINT64_MAX));
+    CHECK(nothing_received(vbus_receive(none, memory, nine, 0, payload, 508), 0, 0, 7, UINT64_MAX));
+    CHECK(memcmp(memory, before, sizeof before) == 0 && painted(payload, 0, sizeof payload));
+    CHECK(received_is(vbus_receive(one, memory, nine + 7, 1, payload, 508), 1, UINT64_MAX - 8, 8, clearance_header(), 0));
+    CHECK(receiver_is(vbus_reset(none), 0, UINT64_MAX));
 }
 
 static void normalizing(void) {
@@ -403,7 +437,7 @@ static void unused_septets(void) {
     CHECK(found_is(vbus_next(packet, 40, 0, payload, 20), 0, 1, 0, 40, packet_header(), 20));
     CHECK(memcmp(payload, payload20, 20) == 0);
     paint(payload, sizeof payload);
-    CHECK(received_is(vbus_receive(fresh, memory, packet, 40, payload, sizeof payload), 40, 40, packet_header(), 20));
+    CHECK(received_is(vbus_receive(fresh, memory, packet, 40, payload, sizeof payload), 40, 0, 40, packet_header(), 20));
     CHECK(memcmp(payload, payload20, 20) == 0 && painted(payload, 20, sizeof payload));
     CHECK(written_is(vbus_normalize(packet, 40, out, 40), 0, 40) && memcmp(out, clean, 40) == 0);
     CHECK(written_is(vbus_normalize(other, 16, out, 16), 0, 16) && memcmp(out, datagram, 16) == 0);
@@ -552,10 +586,10 @@ static void null_with_zero(void) {
     CHECK(nothing_found(vbus_next(datagram, 16, 0, NULL, 0), VBUS_OUTPUT_TOO_SHORT));
     CHECK(nothing_found(vbus_next(telegram, 17, 0, NULL, 0), VBUS_OUTPUT_TOO_SHORT));
     memcpy(memory, clearance, 7);
-    const vbus_receiver seven = {7};
-    CHECK(nothing_received(vbus_receive(seven, memory, NULL, 0, payload, sizeof payload), 0, 0, 7));
-    CHECK(nothing_received(vbus_receive(seven, memory, NULL, 0, NULL, 0), VBUS_OUTPUT_TOO_SHORT, 0, 7));
-    CHECK(nothing_received(vbus_receive(seven, memory, clearance + 7, 1, NULL, 0), VBUS_OUTPUT_TOO_SHORT, 0, 7));
+    const vbus_receiver seven = {7, 7};
+    CHECK(nothing_received(vbus_receive(seven, memory, NULL, 0, payload, sizeof payload), 0, 0, 7, 7));
+    CHECK(nothing_received(vbus_receive(seven, memory, NULL, 0, NULL, 0), VBUS_OUTPUT_TOO_SHORT, 0, 7, 7));
+    CHECK(nothing_received(vbus_receive(seven, memory, clearance + 7, 1, NULL, 0), VBUS_OUTPUT_TOO_SHORT, 0, 7, 7));
     CHECK(written_is(vbus_encode(block, NULL, 0, out, 16), 0, 10));
     CHECK(memcmp(out, "\xAA\x15\x00\x21\x7E\x10\x00\x01\x00\x3A", 10) == 0);
     CHECK(written_is(vbus_encode(clearance_header(), NULL, 0, out, 16), 0, 8));
@@ -582,6 +616,7 @@ int main(void) {
     receiving();
     receiving_the_longest();
     resetting();
+    counting_to_the_end();
     normalizing();
     unused_septets();
     writing();

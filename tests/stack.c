@@ -184,9 +184,11 @@ static vbus_header header_of(uint8_t version, uint16_t command) {
     return made;
 }
 
-/* receive: a chunk of n bytes for a receiver that holds that many of `held`, with room for a payload and without */
+/* receive: a chunk of n bytes for a receiver that holds that many of `held`, with room for a payload and without, and
+ * where the count has no room for the chunk */
 static void chunk(size_t holds, const uint8_t *bytes, size_t n) {
     call.receiver.held = holds;
+    call.receiver.position = VBUS_MAX_STREAM; /* no fewer bytes were used than can be held */
     call.input = bytes;
     call.n = n;
     call.out = out;
@@ -194,13 +196,16 @@ static void chunk(size_t holds, const uint8_t *bytes, size_t n) {
     measure(RECEIVE);
     call.room = VBUS_MAX_PAYLOAD - 1;
     measure(RECEIVE);
+    call.room = VBUS_MAX_PAYLOAD;
+    call.receiver.position = UINT64_MAX;
+    measure(RECEIVE);
     measure(RESET);
 }
 
 /* every record of what stands in the input, each from where the one before it ended */
 static void received(size_t n) {
     static uint8_t own[VBUS_MAX_STREAM];
-    vbus_receiver fresh = {0};
+    vbus_receiver fresh = {0, 0};
     for (size_t at = 0; at < n;) {
         chunk(0, input + at, n - at);
         at += vbus_receive(fresh, own, input + at, n - at, out, sizeof out).used;

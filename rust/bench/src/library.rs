@@ -46,35 +46,36 @@ pub fn normalize(input: &[u8], out: &mut [u8]) -> vbus_sys::Written {
     unsafe { vbus_sys::vbus_normalize(input.as_ptr(), input.len(), pointer, room) }
 }
 
-/// A receiver with its memory.
-pub struct Receiver {
+/// A receiver and its memory, which lies elsewhere, as in a C program: so the compiler can keep the
+/// receiver in registers.
+pub struct Receiver<'m> {
     state: vbus_sys::Receiver,
-    memory: [u8; 772],
+    memory: &'m mut [u8; 772],
 }
 
-impl Receiver {
-    pub fn new() -> Receiver {
+impl<'m> Receiver<'m> {
+    /// A fresh one.
+    #[inline(always)]
+    pub fn new(memory: &'m mut [u8; 772]) -> Receiver<'m> {
         Receiver {
             state: vbus_sys::Receiver::default(),
-            memory: [0; 772],
+            memory,
         }
     }
 }
 
 #[inline(always)]
-pub fn receive(receiver: &mut Receiver, chunk: &[u8], payload: &mut [u8]) -> vbus_sys::Received {
+pub fn receive(
+    receiver: &mut Receiver<'_>,
+    chunk: &[u8],
+    payload: &mut [u8],
+) -> vbus_sys::Received {
     let Receiver { state, memory } = receiver;
     let (pointer, room) = (payload.as_mut_ptr(), payload.len());
     // SAFETY: pointers and counts are those of slices and of an array that do not overlap.
     let answer = unsafe {
-        vbus_sys::vbus_receive(*state, memory, chunk.as_ptr(), chunk.len(), pointer, room)
+        vbus_sys::vbus_receive(*state, *memory, chunk.as_ptr(), chunk.len(), pointer, room)
     };
     *state = answer.receiver;
     answer
-}
-
-#[inline(always)]
-pub fn reset(receiver: &mut Receiver) {
-    // SAFETY: it takes no pointer.
-    receiver.state = unsafe { vbus_sys::vbus_reset(receiver.state) };
 }

@@ -70,11 +70,6 @@ fn ref_receive(
     receiver.receive(chunk, payload)
 }
 
-#[inline(never)]
-fn ref_reset(receiver: &mut reference::Receiver) {
-    receiver.reset();
-}
-
 // What is timed. Each answers with a number that depends on every answer it got.
 
 /// Validates at one place after the other, and steps over a whole stream.
@@ -113,8 +108,8 @@ macro_rules! next_all {
             black_box(&$payload);
             seen = seen
                 .wrapping_mul(31)
-                .wrapping_add(answer.place ^ answer.payload_length);
-            start = answer.place + answer.length;
+                .wrapping_add(answer.position as usize ^ answer.payload_length);
+            start = answer.position as usize + answer.length;
         }
         seen
     }};
@@ -142,15 +137,15 @@ macro_rules! faults_all {
     }};
 }
 
-/// Hands every chunk over, again from where a record ended.
+/// Hands every chunk over to a fresh receiver, again from where a record ended.
 macro_rules! receive_all {
-    ($receive:expr, $reset:expr, $receiver:expr, $chunks:expr, $payload:expr) => {{
-        $reset($receiver);
+    ($receive:expr, $fresh:expr, $chunks:expr, $payload:expr) => {{
+        let mut receiver = $fresh;
         let mut seen = 0usize;
         for chunk in $chunks {
             let mut rest: &[u8] = black_box(chunk);
             while !rest.is_empty() {
-                let answer = $receive($receiver, rest, $payload);
+                let answer = $receive(&mut receiver, rest, $payload);
                 black_box(&$payload);
                 seen = seen
                     .wrapping_mul(31)
@@ -360,31 +355,20 @@ fn receiver(kind: &str, input: &[u8]) {
     for size in [1, 16, 256, 65_536] {
         let mut payload_a = [0u8; 508];
         let mut payload_b = [0u8; 508];
-        let mut receiver_a = lib::Receiver::new();
-        let mut receiver_b = reference::Receiver::new();
+        let mut memory = [0u8; 772];
         let name = format!("receive, {kind}, chunks of {size}");
         compare(
             &name,
             input.len(),
             || {
                 let chunks = input.chunks(size);
-                receive_all!(
-                    lib::receive,
-                    lib::reset,
-                    &mut receiver_a,
-                    chunks,
-                    &mut payload_a
-                )
+                let fresh = lib::Receiver::new(&mut memory);
+                receive_all!(lib::receive, fresh, chunks, &mut payload_a)
             },
             || {
                 let chunks = input.chunks(size);
-                receive_all!(
-                    ref_receive,
-                    ref_reset,
-                    &mut receiver_b,
-                    chunks,
-                    &mut payload_b
-                )
+                let fresh = reference::Receiver::new();
+                receive_all!(ref_receive, fresh, chunks, &mut payload_b)
             },
         );
         assert!(payload_a == payload_b, "{name}: the last payload differs");

@@ -68,8 +68,7 @@ impl Checker {
     fn random_recording(&mut self, make: fn(&mut crate::rng::Rng) -> Vec<u8>) -> Checked<()> {
         let input = make(&mut self.rng);
         for record in self.recording(&input)? {
-            let stream = &input[record.place..][..record.length];
-            self.count(unused_class(stream));
+            self.count(unused_class(record.stream(&input, 0)));
         }
         self.random_faults(&input)
     }
@@ -134,7 +133,8 @@ impl Checker {
         Ok(records)
     }
 
-    /// The normalized recording has just the recording's records, and stays as it is when normalized.
+    /// The normalized recording has just the recording's records, the same but for their positions, and
+    /// stays as it is when normalized.
     fn normalized_again(
         &mut self,
         input: &[u8],
@@ -150,7 +150,7 @@ impl Checker {
         for record in records {
             let found = library::next(normal, at, &mut payload);
             let same = found.found
-                && found.place == at
+                && found.position == at as u64
                 && found.header == record.header
                 && payload[..found.payload_length] == record.payload[..];
             self.holds(same, || {
@@ -211,7 +211,7 @@ impl Checker {
                 None => !found.found,
                 Some(entry) => {
                     found.found
-                        && (entry.place, entry.length) == (found.place, found.length)
+                        && (entry.position, entry.length) == (found.position, found.length)
                         && entry.record.header == wrapper(found.header)
                         && entry.record.payload == payload
                 }
@@ -228,30 +228,35 @@ impl Checker {
                     self.next(input, start, room)?;
                 }
             }
-            let (_, stream) = self.encode(found.header, &payload, found.length)?;
-            let end = found.place + found.length;
-            let read = &input[found.place..end];
-            let clean = self.validate(read)?.unused_septets == 0;
-            self.holds((stream == read) == clean, || {
-                let read = hex(read);
-                format!("encoding gives {read} again exactly if it has no unused septet bits")
-            })?;
-            let (back, copy) = self.next(&stream, 0, MAX_PAYLOAD)?;
-            let same = back.found
-                && (back.place, back.length) == (0, stream.len())
-                && back.header == found.header
-                && copy == payload;
-            self.holds(same, || {
-                format!("the encoded stream's record: {}", hex(&stream))
-            })?;
-            records.push(Delivered {
-                place: found.place,
+            let record = Delivered {
+                position: found.position,
                 length: found.length,
                 header: found.header,
                 payload,
-            });
-            start = end;
+            };
+            self.written_again(record.stream(input, 0), &record)?;
+            start = found.position as usize + found.length;
+            records.push(record);
         }
+    }
+
+    /// A record written again is the stream that was read, but for its unused septet bits; and read again
+    /// it is the same record, at another position.
+    fn written_again(&mut self, read: &[u8], record: &Delivered) -> Checked<()> {
+        let (_, stream) = self.encode(record.header, &record.payload, record.length)?;
+        let clean = self.validate(read)?.unused_septets == 0;
+        self.holds((stream == read) == clean, || {
+            let read = hex(read);
+            format!("encoding gives {read} again exactly if it has no unused septet bits")
+        })?;
+        let (back, copy) = self.next(&stream, 0, MAX_PAYLOAD)?;
+        let same = back.found
+            && (back.position, back.length) == (0, stream.len())
+            && back.header == record.header
+            && copy == record.payload;
+        self.holds(same, || {
+            format!("the encoded stream's record: {}", hex(&stream))
+        })
     }
 
     fn random_encode(&mut self) -> Checked<()> {
@@ -288,7 +293,7 @@ impl Checker {
         if written.number == 0 {
             let (found, copy) = self.next(&stream, 0, payload.len())?;
             let same = found.found
-                && (found.place, found.length) == (0, stream.len())
+                && (found.position, found.length) == (0, stream.len())
                 && found.header == header
                 && copy == payload;
             self.holds(same, || {
@@ -434,6 +439,7 @@ impl Checker {
         self.every_block_header()?;
         self.every_temperature()?;
         self.every_held_and_room()?;
+        self.every_limit()?;
         self.every_announcement()?;
         self.every_two_cuts()?;
         self.every_block_length()?;
@@ -796,7 +802,31 @@ impl Checker {
             self.told_faults(&input)?;
             self.count("long input");
         }
+        self.far()?;
         self.receive_long()
+    }
+
+    /// Records around 4 GiB, from where a position has more than 32 bits. Only what is near them is
+    /// touched, so the input takes addresses but no memory.
+    fn far(&mut self) -> Checked<()> {
+        self.note(|| "a record around 4 GiB".to_string());
+        let stream = recordings::stream(&mut self.rng);
+        let mut input = vec![0; (1 << 32) + 2 * MAX_STREAM];
+        for place in [(1 << 32) - 1, 1 << 32, (1 << 32) + 300] {
+            let end = place + stream.len();
+            input[place..end].copy_from_slice(&stream);
+            let mut buffer = [0; MAX_PAYLOAD];
+            let found = library::next(&input, place - 3, &mut buffer);
+            let same = found == reference::next(&input, place - 3, &mut buffer)
+                && found.position == place as u64
+                && vbus::next(&input, place - 3, &mut buffer).is_ok_and(|found| {
+                    found.is_some_and(|found| (found.position, found.end()) == (place as u64, end))
+                });
+            self.holds(same, || format!("a record at {place}: {found:X?}"))?;
+            self.count("long input");
+            input[place..end].fill(0);
+        }
+        Ok(())
     }
 }
 

@@ -1,6 +1,6 @@
 //! Makes one call of the library and of the reference and compares everything they leave.
 
-use crate::library;
+use crate::library::{self, Receiver};
 use crate::naive;
 use crate::recordings::{MAX_PAYLOAD, MAX_STREAM};
 use crate::rng::Rng;
@@ -72,24 +72,25 @@ impl Output {
     }
 }
 
-/// A receiver of the library between two calls.
+/// A receiver of the library between two calls, with its memory.
 #[derive(Clone)]
 pub struct State {
-    pub held: usize,
+    pub receiver: Receiver,
     pub memory: [u8; MAX_STREAM],
 }
 
 impl State {
-    /// A fresh receiver; what its memory holds doesn't matter.
-    pub fn fresh(rng: &mut Rng) -> State {
+    /// A receiver that holds nothing; what its memory holds doesn't matter.
+    pub fn at(position: u64, rng: &mut Rng) -> State {
         let mut memory = [0; MAX_STREAM];
         memory.fill_with(|| rng.byte());
-        State { held: 0, memory }
+        let receiver = Receiver { held: 0, position };
+        State { receiver, memory }
     }
 
     /// The bytes held, as far as the memory has as many.
     pub fn bytes(&self) -> &[u8] {
-        &self.memory[..self.held.min(MAX_STREAM)]
+        &self.memory[..self.receiver.held.min(MAX_STREAM)]
     }
 }
 
@@ -97,23 +98,29 @@ impl State {
 #[derive(PartialEq, Debug)]
 struct Left {
     received: Received,
-    held: usize,
+    receiver: Receiver,
     memory: Hex,
     payload: Hex,
 }
 
-/// A call of a receiver: how many bytes are held, the memory, the chunk and the payload's buffer.
-/// It gives the answer and how many bytes are then held.
-type Receive = fn(usize, &mut [u8], &[u8], &mut [u8]) -> (Received, usize);
+/// A call of a receiver: its state, the memory, the chunk and the payload's buffer. It gives the
+/// answer and the state afterwards.
+type Receive = fn(Receiver, &mut [u8], &[u8], &mut [u8]) -> (Received, Receiver);
 
 impl Left {
     /// What `receive` leaves of copies of the two outputs.
-    fn by(receive: Receive, held: usize, memory: &Output, chunk: &[u8], payload: &Output) -> Left {
-        let (((received, held), memory), payload) =
-            payload.lend(|payload| memory.lend(|memory| receive(held, memory, chunk, payload)));
+    fn by(
+        receive: Receive,
+        receiver: Receiver,
+        memory: &Output,
+        chunk: &[u8],
+        payload: &Output,
+    ) -> Left {
+        let (((received, receiver), memory), payload) =
+            payload.lend(|payload| memory.lend(|memory| receive(receiver, memory, chunk, payload)));
         Left {
             received,
-            held,
+            receiver,
             memory,
             payload,
         }
@@ -124,7 +131,7 @@ impl Left {
     fn without_free(mut self, memory: &Output) -> Left {
         if self.received.number == 0 {
             let bytes = self.memory.0[memory.from..memory.to].iter_mut();
-            bytes.skip(self.held).for_each(|byte| *byte = 0);
+            bytes.skip(self.receiver.held).for_each(|byte| *byte = 0);
         }
         self
     }
@@ -364,35 +371,37 @@ impl Checker {
     ) -> Checked<(Received, Vec<u8>)> {
         let memory = Output::holding(&mut self.rng, &state.memory);
         let payload = Output::new(&mut self.rng, room);
-        let held = state.held;
+        let before = state.receiver;
         let mut after = [0; MAX_STREAM];
         let left = self.same(
             || {
                 let (memory, chunk) = (hex(&state.memory), hex(chunk));
-                format!("vbus_receive(held = {held}, memory = {memory}, chunk = {chunk}, room = {room})")
+                format!(
+                    "vbus_receive({before:?}, memory = {memory}, chunk = {chunk}, room = {room})"
+                )
             },
             || {
-                let left = Left::by(library::receive, held, &memory, chunk, &payload);
+                let left = Left::by(library::receive, before, &memory, chunk, &payload);
                 after.copy_from_slice(&left.memory.0[memory.from..memory.to]);
                 left.without_free(&memory)
             },
-            || Left::by(naive::receive, held, &memory, chunk, &payload).without_free(&memory),
+            || Left::by(naive::receive, before, &memory, chunk, &payload).without_free(&memory),
         )?;
         self.number(left.received.number);
         let record = left.payload.0[payload.from..][..left.received.payload_length].to_vec();
-        self.ends_whole(state.bytes(), chunk, left.received, &record)?;
+        self.ends_whole(state, chunk, left.received, &record)?;
         *state = State {
-            held: left.held,
+            receiver: left.receiver,
             memory: after,
         };
         Ok((left.received, record))
     }
 
-    /// A record that was delivered is that of a whole stream, which ends with the last byte used and
-    /// has no bytes but those held and used.
+    /// A record that was delivered is that of a whole stream, which ends with the last byte used, also
+    /// by its position, and has no bytes but those held and used.
     fn ends_whole(
         &mut self,
-        held: &[u8],
+        before: &State,
         chunk: &[u8],
         received: Received,
         payload: &[u8],
@@ -400,26 +409,32 @@ impl Checker {
         if !received.found {
             return Ok(());
         }
-        let fed = [held, &chunk[..received.used]].concat();
+        let fed = [before.bytes(), &chunk[..received.used]].concat();
         let stream = &fed[fed.len().saturating_sub(received.length)..];
+        let end = u128::from(before.receiver.position) + received.used as u128;
         let mut copy = [0; MAX_PAYLOAD];
         let found = reference::next(stream, 0, &mut copy);
         let same = found.found
-            && (found.place, found.length) == (0, stream.len())
+            && (found.position, found.length) == (0, stream.len())
             && received.length == stream.len()
+            && u128::from(received.position) + stream.len() as u128 == end
             && received.header == found.header
             && copy[..found.payload_length] == *payload;
         self.holds(same, || {
-            format!("{} ends with the stream of {received:X?}", hex(&fed))
+            format!(
+                "{} ends at {end} with the stream of {received:X?}",
+                hex(&fed)
+            )
         })
     }
 
     pub fn reset(&mut self, state: &mut State) -> Checked<()> {
-        let held = state.held;
-        state.held = self.same(
-            || format!("vbus_reset(held = {held})"),
-            || library::reset(held),
-            || 0,
+        let before = state.receiver;
+        let position = before.position;
+        state.receiver = self.same(
+            || format!("vbus_reset({before:?})"),
+            || library::reset(before),
+            || Receiver { held: 0, position },
         )?;
         Ok(())
     }

@@ -102,7 +102,7 @@ impl Checker {
         let places: Vec<usize> = faults.iter().map(|fault| fault.place).collect();
         let syncs = || (0..input.len()).filter(|&place| input[place] == 0xAA);
         let mut both = places.clone();
-        both.extend(records.iter().map(|record| record.place));
+        both.extend(records.iter().map(|record| record.position as usize));
         both.sort_unstable();
         self.holds(syncs().eq(both.iter().copied()), || {
             let input = hex(input);

@@ -1,7 +1,7 @@
 //! Calls whose answers have another value in every field, so that a wrong layout shows.
 
 use crate::check::{Checked, Checker};
-use crate::library;
+use crate::library::{self, Receiver};
 use reference::{Count, Fault, Found, Header, Part, Received, Septets, Validation, Written};
 use std::mem::{offset_of, size_of, transmute};
 
@@ -39,7 +39,7 @@ const SECTIONS: [u8; 32] = [
 struct FoundBytes {
     number: u32,
     found: u8,
-    place: usize,
+    position: u64,
     length: usize,
     header: vbus_sys::Header,
     payload_length: usize,
@@ -65,10 +65,12 @@ struct ReceivedBytes {
     number: u32,
     found: u8,
     used: usize,
+    position: u64,
     length: usize,
     header: vbus_sys::Header,
     payload_length: usize,
     held: usize,
+    end: u64,
 }
 
 type Receive = unsafe extern "C" fn(
@@ -80,17 +82,26 @@ type Receive = unsafe extern "C" fn(
     usize,
 ) -> vbus_sys::Received;
 
-type ReceiveBytes =
-    unsafe extern "C" fn(usize, *mut [u8; 772], *const u8, usize, *mut u8, usize) -> ReceivedBytes;
+type ReceiveBytes = unsafe extern "C" fn(
+    usize,
+    u64,
+    *mut [u8; 772],
+    *const u8,
+    usize,
+    *mut u8,
+    usize,
+) -> ReceivedBytes;
 
 impl Checker {
     pub fn layouts(&mut self) -> Checked<()> {
         self.note(|| "the first layout check".to_string());
         self.sizes()?;
+        self.received_offsets()?;
         self.fault_offsets()?;
         self.found()?;
         self.fault()?;
         self.received()?;
+        self.receivers_by_value()?;
         self.small_answers()?;
         self.septets_by_value()?;
         self.encoded()?;
@@ -129,7 +140,7 @@ impl Checker {
             size_of::<vbus_sys::Received>(),
             size_of::<vbus_sys::Fault>(),
         ];
-        let expected = [8, 24, 40, 16, 16, 24, 32, 8, 48, 40];
+        let expected = [8, 24, 40, 16, 16, 24, 32, 16, 64, 40];
         self.expect("sizes on x86-64", sizes, expected)?;
         let offsets = [
             offset_of!(vbus_sys::Validation, verdict),
@@ -139,7 +150,7 @@ impl Checker {
         self.expect("offsets of Validation on x86-64", offsets, [0, 8, 16])?;
         let offsets = [
             offset_of!(vbus_sys::Found, found),
-            offset_of!(vbus_sys::Found, place),
+            offset_of!(vbus_sys::Found, position),
             offset_of!(vbus_sys::Found, length),
             offset_of!(vbus_sys::Found, header),
             offset_of!(vbus_sys::Found, payload_length),
@@ -147,16 +158,22 @@ impl Checker {
             offset_of!(vbus_sys::Septets, length),
             offset_of!(vbus_sys::Septets, septet),
         ];
-        self.expect("offsets on x86-64", offsets, [4, 8, 16, 24, 32, 4, 16, 24])?;
+        self.expect("offsets on x86-64", offsets, [4, 8, 16, 24, 32, 4, 16, 24])
+    }
+
+    fn received_offsets(&mut self) -> Checked<()> {
         let offsets = [
             offset_of!(vbus_sys::Received, found),
             offset_of!(vbus_sys::Received, used),
+            offset_of!(vbus_sys::Received, position),
             offset_of!(vbus_sys::Received, length),
             offset_of!(vbus_sys::Received, header),
             offset_of!(vbus_sys::Received, payload_length),
             offset_of!(vbus_sys::Received, receiver),
+            offset_of!(vbus_sys::Receiver, held),
+            offset_of!(vbus_sys::Receiver, position),
         ];
-        let expected = [4, 8, 16, 24, 32, 40];
+        let expected = [4, 8, 16, 24, 32, 40, 48, 0, 8];
         self.expect("offsets of Received on x86-64", offsets, expected)
     }
 
@@ -185,7 +202,7 @@ impl Checker {
             Found {
                 number: 0,
                 found: true,
-                place: 3,
+                position: 3,
                 length: 22,
                 header: HEADER,
                 payload_length: 8,
@@ -224,41 +241,60 @@ impl Checker {
     fn received(&mut self) -> Checked<()> {
         let mut memory = [0xEE; 772];
         let mut payload = [0xEE; 509];
+        let start = 0x0123_4567_89AB_CDE0;
+        let receiver = |held, position| Receiver { held, position };
         // Three bytes of no stream, and twelve that are held.
         let chunk = [&[0x01, 0x02, 0x03][..], &STREAM[..12]].concat();
-        let answer = library::receive(0, &mut memory, &chunk, &mut payload);
+        let answer = library::receive(receiver(0, start), &mut memory, &chunk, &mut payload);
         let none = Received {
             used: 15,
             ..Received::default()
         };
-        self.expect("vbus_receive of a part", answer, (none, 12))?;
+        let holding = receiver(12, start + 15);
+        self.expect("vbus_receive of a part", answer, (none, holding))?;
         self.expect("vbus_receive's memory", &memory[..12], &STREAM[..12])?;
         self.expect("vbus_receive's payload", payload, [0xEE; 509])?;
 
-        let refused = Received {
-            number: 5,
-            ..Received::default()
-        };
-        let wide = 0xFEDC_BA98_7654_3210;
-        for held in [12, wide] {
-            let answer = library::receive(held, &mut memory, &STREAM[12..], &mut payload[..507]);
-            self.expect("vbus_receive without room", answer, (refused, held))?;
-        }
-
         let chunk = [&STREAM[12..], &STREAM[..5]].concat();
-        let answer = library::receive(12, &mut memory, &chunk, &mut payload);
+        let answer = library::receive(holding, &mut memory, &chunk, &mut payload);
         let found = Received {
             number: 0,
             found: true,
             used: 10,
+            position: start + 3,
             length: 22,
             header: HEADER,
             payload_length: 8,
         };
-        self.expect("vbus_receive of the rest", answer, (found, 0))?;
+        let after = receiver(0, start + 25);
+        self.expect("vbus_receive of the rest", answer, (found, after))?;
         self.expect("vbus_receive's payload", &payload[..8], &PAYLOAD[..])?;
-        self.expect("the bytes behind it", &payload[8..], &[0xEE; 501][..])?;
-        self.expect("vbus_reset", library::reset(wide), 0)
+        self.expect("the bytes behind it", &payload[8..], &[0xEE; 501][..])
+    }
+
+    /// A receiver comes back as it was, in all its bits; a reset one has its position.
+    fn receivers_by_value(&mut self) -> Checked<()> {
+        let mut memory = [0; 772];
+        let mut payload = [0; 508];
+        let refused = |number| Received {
+            number,
+            ..Received::default()
+        };
+        let held = 0xFEDC_BA98_7654_3210;
+        for (position, room, number) in [
+            (0x0123_4567_89AB_CDEF, 507, 5),
+            (u64::MAX - 9, 507, 5),
+            (u64::MAX - 9, 508, 12),
+        ] {
+            let receiver = Receiver { held, position };
+            let to = &mut payload[..room];
+            let answer = library::receive(receiver, &mut memory, &STREAM[12..], to);
+            let expected = (refused(number), receiver);
+            self.expect("vbus_receive, refused", answer, expected)?;
+            let reset = Receiver { held: 0, position };
+            self.expect("vbus_reset", library::reset(receiver), reset)?;
+        }
+        Ok(())
     }
 
     fn small_answers(&mut self) -> Checked<()> {
@@ -412,7 +448,7 @@ impl Checker {
             let fields = (
                 answer.number,
                 answer.found,
-                answer.place,
+                answer.position,
                 answer.length,
                 answer.header.command,
                 answer.payload_length,
@@ -454,29 +490,38 @@ impl Checker {
     }
 
     fn received_flag(&mut self) -> Checked<()> {
-        // SAFETY: a bool and a u8 have the same size, and a struct of one usize is passed in one
-        // register, as a usize is.
+        // SAFETY: a bool and a u8 have the same size, and a struct of two numbers of 64 bits is passed
+        // in two registers, as these are by themselves.
         let receive = unsafe { transmute::<Receive, ReceiveBytes>(vbus_sys::vbus_receive) };
         let mut memory = [0; 772];
         memory[..12].copy_from_slice(&STREAM[..12]);
         let rest = &STREAM[12..];
         let mut out = [0; 508];
-        for (n, room, expected) in [
-            (9, 507, (5, 0, 0, 0, 0, 0, 12)),
-            (0, 508, (0, 0, 0, 0, 0, 0, 12)),
-            (10, 508, (0, 1, 10, 22, 0x1A2B, 8, 0)),
+        let (start, limit) = (0x0123_4567_89AB_CDE0, u64::MAX);
+        for (position, n, room, expected) in [
+            (start, 9, 507, (5, 0, 0, 0, 0, 0, 0, 12, start)),
+            (limit, 1, 508, (12, 0, 0, 0, 0, 0, 0, 12, limit)),
+            (start, 0, 508, (0, 0, 0, 0, 0, 0, 0, 12, start)),
+            (
+                start,
+                10,
+                508,
+                (0, 1, 10, start - 12, 22, 0x1A2B, 8, 0, start + 10),
+            ),
         ] {
             let (chunk, to) = (rest.as_ptr(), out.as_mut_ptr());
             // SAFETY: pointers and counts are those of arrays; `n` and `room` are at most their lengths.
-            let answer = unsafe { receive(12, &mut memory, chunk, n, to, room) };
+            let answer = unsafe { receive(12, position, &mut memory, chunk, n, to, room) };
             let fields = (
                 answer.number,
                 answer.found,
                 answer.used,
+                answer.position,
                 answer.length,
                 answer.header.command,
                 answer.payload_length,
                 answer.held,
+                answer.end,
             );
             self.expect("vbus_receive, with the flag as a byte", fields, expected)?;
         }

@@ -2,6 +2,9 @@
 
 use reference::{Count, Fault, Found, Header, Part, Received, Septets, Validation, Written};
 
+/// A receiver between two calls, but for its memory.
+pub use vbus_sys::Receiver;
+
 /// An answer as the reference's struct of that name. Every field of both is named, so that none
 /// can be left out of a comparison.
 macro_rules! as_reference {
@@ -50,7 +53,7 @@ pub fn next(input: &[u8], start: usize, payload: &mut [u8]) -> Found {
     let vbus_sys::Found {
         number,
         found,
-        place,
+        position,
         length,
         header,
         payload_length,
@@ -58,7 +61,7 @@ pub fn next(input: &[u8], start: usize, payload: &mut [u8]) -> Found {
     Found {
         number,
         found,
-        place,
+        position,
         length,
         header: as_reference!(header => Header { version, destination, source, command }),
         payload_length,
@@ -73,14 +76,13 @@ pub fn next_fault(input: &[u8], start: usize) -> Fault {
     })
 }
 
-/// A receiver that holds `held` bytes of its memory, which has 772; also how many it then holds.
+/// Also the receiver afterwards. The memory has 772 bytes.
 pub fn receive(
-    held: usize,
+    receiver: Receiver,
     memory: &mut [u8],
     chunk: &[u8],
     payload: &mut [u8],
-) -> (Received, usize) {
-    let receiver = vbus_sys::Receiver { held };
+) -> (Received, Receiver) {
     let memory: &mut [u8; 772] = memory.try_into().expect("the memory has 772 bytes");
     let (from, n) = (chunk.as_ptr(), chunk.len());
     let (to, room) = (payload.as_mut_ptr(), payload.len());
@@ -90,26 +92,27 @@ pub fn receive(
         number,
         found,
         used,
+        position,
         length,
         header,
         payload_length,
-        receiver: vbus_sys::Receiver { held },
+        receiver,
     } = answer;
     let received = Received {
         number,
         found,
         used,
+        position,
         length,
         header: as_reference!(header => Header { version, destination, source, command }),
         payload_length,
     };
-    (received, held)
+    (received, receiver)
 }
 
-/// How many bytes a receiver holds after a reset.
-pub fn reset(held: usize) -> usize {
+pub fn reset(receiver: Receiver) -> Receiver {
     // SAFETY: it takes no pointer.
-    unsafe { vbus_sys::vbus_reset(vbus_sys::Receiver { held }) }.held
+    unsafe { vbus_sys::vbus_reset(receiver) }
 }
 
 pub fn encode(head: Header, payload: &[u8], out: &mut [u8]) -> Written {

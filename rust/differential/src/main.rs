@@ -164,8 +164,8 @@ fn compare(
 }
 
 /// Every refusal and every verdict occurred, the naive reading and every class of receivers found
-/// records, these had unused septet bits in none, one, some and all of their blocks, and there were
-/// faults of every class, or the run has shown less than it claims.
+/// records, these had unused septet bits in none, one, some and all of their blocks, positions came to
+/// the limit, and there were faults of every class, or the run has shown less than it claims.
 fn complete(checker: &mut Checker) -> Checked<()> {
     let errors = Error::ALL.iter().map(|error| error.number() as usize);
     for number in errors.chain([0]) {
@@ -180,7 +180,9 @@ fn complete(checker: &mut Checker) -> Checked<()> {
     let count = checker.verdicts[5];
     checker.holds(count == 0, || "the verdict V5 doesn't occur".into())?;
     let naive = ["naive recordings", "naive records"];
-    let classes = naive.into_iter().chain(receiver::RECORDS);
+    let limits = receiver::LIMITS.into_iter().flatten();
+    let receivers = receiver::RECORDS.into_iter().chain(limits);
+    let classes = naive.into_iter().chain(receivers);
     for class in classes.chain(cases::UNUSED).chain(faults::counted()) {
         let some = checker.cases.get(class).is_some_and(|count| *count > 0);
         checker.holds(some, || format!("there are {class}"))?;

@@ -4,6 +4,7 @@
 //! after byte, the receiver in any state. And whether bytes can still grow into a whole stream, by
 //! letting them grow.
 
+use crate::library::Receiver;
 use crate::recordings::{self, MAX_PAYLOAD, MAX_STREAM};
 use reference::{Header, Received};
 use std::slice::Chunks;
@@ -20,7 +21,7 @@ pub fn checksum(block: &[u8]) -> u8 {
 /// A record, and where its stream lies.
 #[derive(PartialEq, Debug)]
 pub struct Delivered {
-    pub place: usize,
+    pub position: u64,
     pub length: usize,
     pub header: Header,
     pub payload: Vec<u8>,
@@ -29,7 +30,7 @@ pub struct Delivered {
 /// The records at all places from which the input begins with a whole stream.
 pub fn records(input: &[u8]) -> Vec<Delivered> {
     (0..input.len())
-        .filter_map(|place| Some(read(place, whole_stream(&input[place..])?)))
+        .filter_map(|place| Some(read(place as u64, whole_stream(&input[place..])?)))
         .collect()
 }
 
@@ -61,8 +62,16 @@ pub fn unused_septets(stream: &[u8]) -> usize {
     blocks.filter(|block| block[width] >= 1 << width).count()
 }
 
-/// The record of a whole stream.
-fn read(place: usize, stream: &[u8]) -> Delivered {
+impl Delivered {
+    /// The record's stream in a recording that begins at that position.
+    pub fn stream<'i>(&self, input: &'i [u8], from: u64) -> &'i [u8] {
+        let place = (self.position - from) as usize;
+        &input[place..place + self.length]
+    }
+}
+
+/// The record of a whole stream at that position.
+fn read(position: u64, stream: &[u8]) -> Delivered {
     let word = |at: usize| u16::from(stream[at]) + 256 * u16::from(stream[at + 1]);
     let version = stream[5];
     let command = match version {
@@ -78,7 +87,7 @@ fn read(place: usize, stream: &[u8]) -> Delivered {
         }
     }
     Delivered {
-        place,
+        position,
         length: stream.len(),
         header: Header {
             version,
@@ -98,37 +107,68 @@ pub fn normalized(records: &[Delivered]) -> Vec<u8> {
         .collect()
 }
 
-/// A call of a receiver that holds `held` bytes of its memory; also how many it then holds.
+/// A call of a receiver in any state; also the receiver afterwards.
 pub fn receive(
-    held: usize,
+    receiver: Receiver,
     memory: &mut [u8],
     chunk: &[u8],
     payload: &mut [u8],
-) -> (Received, usize) {
-    let mut received = Received::default();
-    if payload.len() < MAX_PAYLOAD {
-        received.number = 5;
-        return (received, held);
+) -> (Received, Receiver) {
+    let number = refusal(receiver, chunk, payload);
+    if number != 0 {
+        let refused = Received {
+            number,
+            ..Received::default()
+        };
+        return (refused, receiver);
     }
-    let mut stream = Vec::new();
-    if held < MAX_STREAM {
-        stream = kept(memory[..held].to_vec());
-    }
+    let mut stream = held_in(receiver, memory);
+    // No sum is too large: a chunk that would be is refused.
+    let mut position = receiver.position;
+    let mut begins = position - stream.len() as u64;
     for (i, &byte) in chunk.iter().enumerate() {
         match byte {
-            0xAA => stream = vec![0xAA],
+            0xAA => (stream, begins) = (vec![0xAA], position),
             0x80.. => stream = Vec::new(),
             _ if stream.is_empty() => {}
             _ => stream.push(byte),
         }
+        position += 1;
         if whole(&stream) {
-            return (delivered(&stream, i + 1, payload), 0);
+            let received = delivered(read(begins, &stream), i + 1, payload);
+            return (received, Receiver { held: 0, position });
         }
         stream = kept(stream);
     }
     memory[..stream.len()].copy_from_slice(&stream);
-    received.used = chunk.len();
-    (received, stream.len())
+    let held = stream.len();
+    let received = Received {
+        used: chunk.len(),
+        ..Received::default()
+    };
+    (received, Receiver { held, position })
+}
+
+/// Too little room; then too many bytes to be counted, in numbers that hold any sum.
+fn refusal(receiver: Receiver, chunk: &[u8], payload: &[u8]) -> u32 {
+    let count = u128::from(receiver.position) + chunk.len() as u128;
+    if payload.len() < MAX_PAYLOAD {
+        5
+    } else if count >= 1 << 64 {
+        12
+    } else {
+        0
+    }
+}
+
+/// What a state holds: nothing if it says more than were used, or than an unfinished stream has.
+fn held_in(receiver: Receiver, memory: &[u8]) -> Vec<u8> {
+    let Receiver { held, position } = receiver;
+    if held < MAX_STREAM && held as u64 <= position {
+        kept(memory[..held].to_vec())
+    } else {
+        Vec::new()
+    }
 }
 
 /// The bytes, if more are announced and a stream can have as many; else none.
@@ -180,16 +220,16 @@ fn summed(block: &[u8]) -> bool {
     checksum(before) == *last
 }
 
-/// The answer for the record of a whole stream that ends with byte number `used` of the chunk.
-fn delivered(stream: &[u8], used: usize, payload: &mut [u8]) -> Received {
-    let record = read(0, stream);
+/// The answer for a record whose stream ends with byte number `used` of the chunk.
+fn delivered(record: Delivered, used: usize, payload: &mut [u8]) -> Received {
     let payload_length = record.payload.len();
     payload[..payload_length].copy_from_slice(&record.payload);
     Received {
         number: 0,
         found: true,
         used,
-        length: stream.len(),
+        position: record.position,
+        length: record.length,
         header: record.header,
         payload_length,
     }

@@ -2,13 +2,13 @@
 
 use crate::cases::wrapper;
 use crate::check::{hex, Checked, Checker, State};
-use crate::library;
+use crate::library::{self, Receiver};
 use crate::naive::{self, Delivered};
 use crate::recordings::{self, MAX_PAYLOAD, MAX_STREAM};
 use crate::rng::Rng;
 use reference::{Header, Received};
 use std::io::{self, ErrorKind, Read};
-use vbus::{Record, RecordReader};
+use vbus::{Entry, Error, RecordReader};
 
 const CUT: &str = "records: cut";
 const ANY_STATE: &str = "records: any state";
@@ -21,6 +21,15 @@ const UNUSED: &str = "records: unused bits";
 /// The counts of records that each class delivers, and of those of random recordings whose streams have
 /// unused septet bits. Where one stays 0 the class has shown nothing.
 pub const RECORDS: [&str; 7] = [CUT, ANY_STATE, RESETS, HOSTILE, WRAPPER, FIXED, UNUSED];
+
+/// The random calls whose chunk takes the position just to its limit, the largest 64-bit number, and
+/// those that would take it one byte further. Where one stays 0 the run has shown less than it claims.
+pub const LIMITS: [Limit; 3] = [LIMIT_ANY_STATE, LIMIT_RUNS, LIMIT_WRAPPER];
+
+type Limit = [&'static str; 2];
+const LIMIT_ANY_STATE: Limit = ["limit: any state", "past limit: any state"];
+const LIMIT_RUNS: Limit = ["limit: runs", "past limit: runs"];
+const LIMIT_WRAPPER: Limit = ["limit: wrapper", "past limit: wrapper"];
 
 /// Every kind of recording.
 const RECORDINGS: [fn(&mut Rng) -> Vec<u8>; 11] = [
@@ -59,8 +68,21 @@ fn chunks<'a>(rng: &mut Rng, input: &'a [u8]) -> Vec<&'a [u8]> {
     chunks
 }
 
-/// The records of `input`, which begins at byte `from` of a recording, by the reference.
-fn records_from(from: usize, input: &[u8]) -> Vec<Delivered> {
+/// Where a receiver begins to which a recording of `n` bytes is handed, so that it fits, often just.
+fn any_start(rng: &mut Rng, n: usize) -> u64 {
+    let within = rng.below(n + 1) as u64;
+    match rng.below(8) {
+        0..=2 => 0,
+        3 => rng.below(1 << 20) as u64,
+        // 2^32 or 2^63 is passed on the way.
+        4 => (1 << 32) - within,
+        5 => (1 << 63) - within,
+        _ => u64::MAX - n as u64,
+    }
+}
+
+/// The records of `input`, which begins at position `from`, by the reference.
+fn records_from(from: u64, input: &[u8]) -> Vec<Delivered> {
     let mut records = Vec::new();
     let mut payload = [0; MAX_PAYLOAD];
     let mut start = 0;
@@ -70,52 +92,77 @@ fn records_from(from: usize, input: &[u8]) -> Vec<Delivered> {
             return records;
         }
         records.push(Delivered {
-            place: from + found.place,
+            position: from + found.position,
             length: found.length,
             header: found.header,
             payload: payload[..found.payload_length].to_vec(),
         });
-        start = found.place + found.length;
+        start = found.position as usize + found.length;
     }
 }
 
-/// A receiver of the library and one of the reference that get the same bytes.
-struct Pair {
+/// A run of calls: receivers of the library and of the reference that get the same chunks, and what
+/// they gave.
+struct Run {
     library: State,
     reference: reference::Receiver,
-    /// Bytes used so far.
-    used: usize,
+    /// The library's, fresh when the others began or were last reset, which was at position `since`.
+    fresh: State,
+    since: u64,
     records: Vec<Delivered>,
+    /// Chunks refused as 12.
+    overflows: usize,
 }
 
-impl Pair {
-    fn fresh(rng: &mut Rng) -> Pair {
-        Pair {
-            library: State::fresh(rng),
-            reference: reference::Receiver::new(),
-            used: 0,
+impl Run {
+    fn at(position: u64, rng: &mut Rng) -> Run {
+        Run {
+            library: State::at(position, rng),
+            reference: reference::Receiver::at(position),
+            fresh: State::at(0, rng),
+            since: position,
             records: Vec::new(),
+            overflows: 0,
         }
+    }
+
+    fn position(&self) -> u64 {
+        self.library.receiver.position
+    }
+
+    /// The records since the last reset, of a recording that began at position `start`: those of a
+    /// recording that begins and ends there.
+    fn expected(&self, start: u64, input: &[u8]) -> Vec<Delivered> {
+        let [from, to] = [self.since, self.position()].map(|position| (position - start) as usize);
+        records_from(self.since, &input[from..to])
     }
 }
 
 impl Checker {
-    /// One call of both receivers; gives the bytes used.
-    fn receive_both(&mut self, pair: &mut Pair, chunk: &[u8], room: usize) -> Checked<usize> {
-        let (received, payload) = self.receive(&mut pair.library, chunk, room)?;
+    /// One call of all receivers; gives the bytes used.
+    fn receive_all(&mut self, run: &mut Run, chunk: &[u8], room: usize) -> Checked<usize> {
+        let (received, payload) = self.receive(&mut run.library, chunk, room)?;
         let mut copy = vec![0; room];
-        let other = pair.reference.receive(chunk, &mut copy);
-        let same = other == received && copy[..other.payload_length] == payload;
+        let other = run.reference.receive(chunk, &mut copy);
+        let same = other == received
+            && run.reference.position() == run.position()
+            && copy[..other.payload_length] == payload;
         self.holds(same, || {
-            let chunk = hex(chunk);
+            let (chunk, position) = (hex(chunk), run.reference.position());
             format!(
-                "the library gives {received:X?} for {chunk}, the reference's receiver {other:X?}"
+                "the library gives {received:X?} for {chunk}, the reference's receiver {other:X?} \
+                 and is at {position}"
             )
         })?;
-        pair.used += received.used;
+        if received.number == 12 {
+            // Here they differ: a fresh receiver takes it.
+            run.overflows += 1;
+            return Ok(0);
+        }
+        self.as_if_fresh(run, chunk, room, received, &payload)?;
         if received.found {
-            pair.records.push(Delivered {
-                place: pair.used - received.length,
+            run.records.push(Delivered {
+                position: received.position,
                 length: received.length,
                 header: received.header,
                 payload,
@@ -124,16 +171,50 @@ impl Checker {
         Ok(received.used)
     }
 
+    /// After a reset only positions and 12 differ from a fresh receiver's: positions by that at which
+    /// it was reset.
+    fn as_if_fresh(
+        &mut self,
+        run: &mut Run,
+        chunk: &[u8],
+        room: usize,
+        received: Received,
+        payload: &[u8],
+    ) -> Checked<()> {
+        let mut copy = vec![0; room];
+        let State { receiver, memory } = &mut run.fresh;
+        let mut fresh;
+        (fresh, *receiver) = library::receive(*receiver, memory, chunk, &mut copy);
+        if fresh.found {
+            fresh.position += run.since;
+        }
+        let same = fresh == received
+            && copy[..fresh.payload_length] == *payload
+            && run.fresh.bytes() == run.library.bytes()
+            && run.since + run.fresh.receiver.position == run.position();
+        self.holds(same, || {
+            let (chunk, since) = (hex(chunk), run.since);
+            format!("as if fresh at {since}, {chunk} gives {fresh:X?}; it gave {received:X?}")
+        })
+    }
+
     /// A chunk until it is used up; now and then a call is refused before.
-    fn feed(&mut self, pair: &mut Pair, chunk: &[u8]) -> Checked<()> {
+    fn feed(&mut self, run: &mut Run, chunk: &[u8]) -> Checked<()> {
         let mut rest = chunk;
         loop {
             if self.rng.once_in(16) {
                 let room = self.rng.below(MAX_PAYLOAD);
-                self.receive_both(pair, rest, room)?;
+                self.receive_all(run, rest, room)?;
+            }
+            let left = u64::MAX - run.position();
+            if left < 3000 && self.rng.once_in(32) {
+                let mut long = rest.to_vec();
+                long.resize(left as usize + 1, 0xAA);
+                let room = self.rng.pick(&[MAX_PAYLOAD, MAX_PAYLOAD - 1]);
+                self.receive_all(run, &long, room)?;
             }
             let room = MAX_PAYLOAD + self.rng.below(2);
-            let used = self.receive_both(pair, rest, room)?;
+            let used = self.receive_all(run, rest, room)?;
             rest = &rest[used..];
             if rest.is_empty() {
                 return Ok(());
@@ -141,8 +222,7 @@ impl Checker {
         }
     }
 
-    /// A recording in chunks, with a reset before one chunk in `resets` (0: none): the records from
-    /// each reset to the next are those of a recording that begins and ends there.
+    /// A recording in chunks, with a reset before one chunk in `resets` (0: none).
     fn fed(
         &mut self,
         class: &'static str,
@@ -150,30 +230,34 @@ impl Checker {
         chunks: &[&[u8]],
         resets: usize,
     ) -> Checked<()> {
-        let mut pair = Pair::fresh(&mut self.rng);
+        let start = any_start(&mut self.rng, input.len());
+        let mut run = Run::at(start, &mut self.rng);
         let mut expected = Vec::new();
-        let mut from = 0;
         for chunk in chunks {
             if resets > 0 && self.rng.once_in(resets) {
-                self.reset(&mut pair.library)?;
-                pair.reference.reset();
-                expected.extend(records_from(from, &input[from..pair.used]));
-                from = pair.used;
+                expected.extend(run.expected(start, input));
+                self.reset(&mut run.library)?;
+                run.reference.reset();
+                run.fresh = State::at(0, &mut self.rng);
+                run.since = run.position();
             }
-            self.feed(&mut pair, chunk)?;
+            self.feed(&mut run, chunk)?;
         }
-        expected.extend(records_from(from, &input[from..]));
-        self.holds(pair.records == expected, || {
-            let (input, records) = (hex(input), &pair.records);
-            format!("the records of {input} are {expected:X?}; received were {records:X?}")
+        expected.extend(run.expected(start, input));
+        self.holds(run.records == expected, || {
+            let (input, records) = (hex(input), &run.records);
+            format!(
+                "from {start} the records of {input} are {expected:X?}; received were {records:X?}"
+            )
         })?;
         self.delivered(class, expected.len());
         if class != FIXED {
-            let unused = expected.iter().filter(|record| {
-                let stream = &input[record.place..][..record.length];
-                naive::unused_septets(stream) > 0
-            });
-            self.delivered(UNUSED, unused.count());
+            let unused =
+                |record: &&Delivered| naive::unused_septets(record.stream(input, start)) > 0;
+            self.delivered(UNUSED, expected.iter().filter(unused).count());
+            let [limit, past] = LIMIT_RUNS;
+            self.delivered(limit, usize::from(run.position() == u64::MAX));
+            self.delivered(past, run.overflows);
         }
         Ok(())
     }
@@ -219,6 +303,9 @@ impl Checker {
             1 => self.rng.below(600),
             _ => MAX_PAYLOAD,
         };
+        if room >= MAX_PAYLOAD {
+            self.count_limit(LIMIT_ANY_STATE, &state, &chunk);
+        }
         let (received, _) = self.receive(&mut state, &chunk, room)?;
         self.delivered(ANY_STATE, usize::from(received.found));
         // And on from the state that this left.
@@ -227,11 +314,21 @@ impl Checker {
         self.delivered(ANY_STATE, usize::from(received.found));
         Ok(())
     }
+
+    /// Counts a call if its chunk takes the position just to its limit, or would one byte further.
+    fn count_limit(&mut self, [limit, past]: Limit, state: &State, chunk: &[u8]) {
+        let left = u64::MAX - state.receiver.position;
+        match chunk.len() as u64 {
+            n if n == left => self.count(limit),
+            n if n > left && n - left == 1 => self.count(past),
+            _ => {}
+        }
+    }
 }
 
 /// A state, also such as no calls lead to, and a chunk that often completes what it holds.
 fn any_state(rng: &mut Rng) -> (State, Vec<u8>) {
-    let mut state = State::fresh(rng);
+    let mut state = State::at(0, rng);
     let mut stream = match rng.below(4) {
         0 => recordings::longest(rng),
         1 => any_recording(rng),
@@ -243,7 +340,7 @@ fn any_state(rng: &mut Rng) -> (State, Vec<u8>) {
     }
     let first = stream.len().min(MAX_STREAM);
     state.memory[..first].copy_from_slice(&stream[..first]);
-    state.held = match rng.below(8) {
+    let held = match rng.below(8) {
         0 => rng.below(MAX_STREAM + 4),
         1 => rng.pick(&[0, 771, 772, 773, 1 << 32, usize::MAX]),
         2 => rng.below(12),
@@ -252,7 +349,7 @@ fn any_state(rng: &mut Rng) -> (State, Vec<u8>) {
     };
     let mut chunk = match rng.below(4) {
         0 => any_recording(rng),
-        _ => stream[state.held.min(stream.len())..].to_vec(),
+        _ => stream[held.min(stream.len())..].to_vec(),
     };
     if rng.once_in(4) && !chunk.is_empty() {
         let at = rng.below(chunk.len());
@@ -261,32 +358,113 @@ fn any_state(rng: &mut Rng) -> (State, Vec<u8>) {
     if rng.once_in(4) {
         chunk.extend(any_recording(rng));
     }
+    let position = any_position(rng, held, chunk.len());
+    state.receiver = Receiver { held, position };
     (state, chunk)
+}
+
+/// Any position, often one around those from which a state holds its bytes, and from which a chunk of
+/// `n` bytes just fits.
+fn any_position(rng: &mut Rng, held: usize, n: usize) -> u64 {
+    let near = |middle: u64, rng: &mut Rng| {
+        let step = rng.below(3) as u64;
+        middle.saturating_sub(1).saturating_add(step)
+    };
+    match rng.below(12) {
+        0 => 0,
+        1 | 2 => near(held as u64, rng),
+        3 => rng.below(100_000) as u64,
+        4 => near(1 << 32, rng),
+        5 => near(1 << 63, rng),
+        6 => rng.next(),
+        _ => near(u64::MAX - n as u64, rng),
+    }
 }
 
 // The cases that every run makes, whatever the seed
 
 impl Checker {
-    /// The longest packet with every number of bytes held, and every room.
+    /// The longest packet with every number of bytes held, of which as many were used, fewer and more;
+    /// and every room.
     pub fn every_held_and_room(&mut self) -> Checked<()> {
         let packet = recordings::longest(&mut self.rng);
         let mut memory = [0; MAX_STREAM];
         memory.copy_from_slice(&packet);
+        let state = |held, position| {
+            let receiver = Receiver { held, position };
+            State { receiver, memory }
+        };
         for held in (0..MAX_STREAM + 2).chain([1 << 32, usize::MAX - 1, usize::MAX]) {
             let rest = &packet[held.min(MAX_STREAM)..];
             let (short, other) = (&rest[..rest.len().min(1)], &rest[rest.len() / 2..]);
-            for chunk in [rest, short, other, &packet, &[]] {
-                self.receive(&mut State { held, memory }, chunk, MAX_PAYLOAD)?;
+            let least = held as u64;
+            for position in [least.saturating_sub(1), least, 1 << 40] {
+                for chunk in [rest, short, other, &packet, &[]] {
+                    self.receive(&mut state(held, position), chunk, MAX_PAYLOAD)?;
+                }
+                self.reset(&mut state(held, position))?;
             }
-            self.reset(&mut State { held, memory })?;
         }
+        let chunk = [&packet[MAX_STREAM - 1..], &packet[..]].concat();
         for room in 0..MAX_PAYLOAD + 2 {
             for held in [0, MAX_STREAM - 1, usize::MAX] {
-                let chunk = [&packet[MAX_STREAM - 1..], &packet[..]].concat();
-                self.receive(&mut State { held, memory }, &chunk, room)?;
+                self.receive(&mut state(held, 1 << 40), &chunk, room)?;
             }
         }
         Ok(())
+    }
+
+    /// Chunks of just as many bytes as lead to the limit of positions, of one less and of one more: behind a stream
+    /// that they complete, or go on with, or that begins with them. 5 is given before 12.
+    pub fn every_limit(&mut self) -> Checked<()> {
+        let telegram = recordings::encoded(
+            Header {
+                version: 0x30,
+                ..Header::default()
+            },
+            &[],
+        );
+        let packet = recordings::longest(&mut self.rng);
+        for n in (0..=20).chain([MAX_STREAM, MAX_STREAM + 1]) {
+            for length in [n.saturating_sub(1), n, n + 1] {
+                for stream in [&telegram, &packet] {
+                    let completed = stream.len().saturating_sub(length);
+                    for held in [0, stream.len() / 2, completed] {
+                        let bytes = stream.iter().copied().cycle().skip(held);
+                        let chunk: Vec<u8> = bytes.take(length).collect();
+                        self.around_the_limit(stream, held, &chunk, n)?;
+                    }
+                }
+            }
+        }
+        Ok(())
+    }
+
+    /// A chunk behind the first bytes of a stream, `n` bytes before the limit.
+    fn around_the_limit(
+        &mut self,
+        stream: &[u8],
+        held: usize,
+        chunk: &[u8],
+        n: usize,
+    ) -> Checked<()> {
+        let mut state = State::at(u64::MAX - n as u64, &mut self.rng);
+        state.receiver.held = held;
+        state.memory[..held].copy_from_slice(&stream[..held]);
+        for room in [0, MAX_PAYLOAD - 1, MAX_PAYLOAD] {
+            let (received, _) = self.receive(&mut state, chunk, room)?;
+            let expected = match room {
+                MAX_PAYLOAD if chunk.len() > n => 12,
+                MAX_PAYLOAD => 0,
+                _ => 5,
+            };
+            self.holds(received.number == expected, || {
+                let chunk = hex(chunk);
+                format!("{n} bytes before the limit, {chunk} gives {expected}: {received:X?}")
+            })?;
+            self.delivered(FIXED, usize::from(received.found));
+        }
+        self.reset(&mut state)
     }
 
     /// Every value of each byte that says how long a stream is, or whether it is one.
@@ -313,8 +491,10 @@ impl Checker {
             .into_iter()
             .chain([packet - 1, packet, MAX_STREAM - 1]);
         for held in (4..12).chain(lengths) {
+            let position = held as u64;
             for chunk in [&[0x22][..], &[0x22; 40]] {
-                self.receive(&mut State { held, memory }, chunk, MAX_PAYLOAD)?;
+                let receiver = Receiver { held, position };
+                self.receive(&mut State { receiver, memory }, chunk, MAX_PAYLOAD)?;
             }
         }
         Ok(())
@@ -384,25 +564,30 @@ struct Ending {
 }
 
 impl Ending {
-    fn is(&self, record: &Record) -> bool {
-        record.header == wrapper(self.received.header) && record.payload == self.payload
+    fn is(&self, entry: &Entry) -> bool {
+        (entry.position, entry.length) == (self.received.position, self.received.length)
+            && entry.record.header == wrapper(self.received.header)
+            && entry.record.payload == self.payload
     }
 }
 
-fn are(records: &[Record], expected: &[Ending]) -> bool {
-    let mut both = records.iter().zip(expected);
-    records.len() == expected.len() && both.all(|(record, ending)| ending.is(record))
+fn are(entries: &[Entry], expected: &[Ending]) -> bool {
+    let mut both = entries.iter().zip(expected);
+    entries.len() == expected.len() && both.all(|(entry, ending)| ending.is(entry))
 }
 
-/// Uses a chunk up; gives its records.
-fn endings(state: &mut State, chunk: &[u8]) -> Vec<Ending> {
+/// Uses a chunk up; gives its records, or the number with which it was refused.
+fn endings(state: &mut State, chunk: &[u8]) -> Result<Vec<Ending>, u32> {
     let mut endings = Vec::new();
     let mut payload = [0; MAX_PAYLOAD];
     let mut used = 0;
     while used < chunk.len() {
         let received;
-        let State { held, memory } = state;
-        (received, *held) = library::receive(*held, memory, &chunk[used..], &mut payload);
+        let State { receiver, memory } = state;
+        (received, *receiver) = library::receive(*receiver, memory, &chunk[used..], &mut payload);
+        if received.number != 0 {
+            return Err(received.number);
+        }
         used += received.used;
         if received.found {
             endings.push(Ending {
@@ -412,38 +597,66 @@ fn endings(state: &mut State, chunk: &[u8]) -> Vec<Ending> {
             });
         }
     }
-    endings
+    Ok(endings)
 }
 
 impl Checker {
-    /// The crate's receiver, its iterator and its reader, against the library.
+    /// The crate's receiver, its iterator and its reader, against the library. Not every recording
+    /// fits.
     pub fn receive_wrapped(&mut self) -> Checked<()> {
         let input = any_recording(&mut self.rng);
         let chunks = chunks(&mut self.rng, &input);
-        self.note(|| format!("vbus::Receiver on {}", hex(&input)));
-        let mut state = State::fresh(&mut self.rng);
-        let mut by_calls = vbus::Receiver::new();
-        let mut by_records = vbus::Receiver::new();
+        let further = self.rng.pick(&[0, 0, 1, 20]);
+        let start = any_start(&mut self.rng, input.len()).saturating_add(further);
+        self.note(|| format!("vbus::Receiver::at({start}) on {}", hex(&input)));
+        let mut state = State::at(start, &mut self.rng);
+        let mut by_calls = vbus::Receiver::at(start);
+        let mut by_records = by_calls.clone();
         for chunk in chunks {
-            let records = endings(&mut state, chunk);
-            self.wrapped_calls(&mut by_calls, chunk, &records)?;
-            self.wrapped_records(&mut by_records, chunk, &records)?;
-            for (name, receiver) in [("receive", &by_calls), ("records", &by_records)] {
-                self.holds(receiver.held() == state.bytes(), || {
-                    format!(
-                        "what is held after vbus::Receiver::{name} of {}",
-                        hex(chunk)
-                    )
-                })?;
+            self.count_limit(LIMIT_WRAPPER, &state, chunk);
+            match endings(&mut state, chunk) {
+                Ok(records) => {
+                    self.wrapped_calls(&mut by_calls, chunk, &records)?;
+                    self.wrapped_records(&mut by_records, chunk, &records)?;
+                    self.delivered(WRAPPER, records.len());
+                }
+                Err(number) => {
+                    let refused = Error::from_number(number);
+                    let same = by_calls.receive(chunk).err() == refused
+                        && by_records.records(chunk).err() == refused;
+                    let what = || format!("vbus::Receiver gives {refused:?} for {}", hex(chunk));
+                    self.holds(same, what)?;
+                }
             }
+            self.wrapped_states(&state, [&by_calls, &by_records], chunk)?;
             if self.rng.once_in(16) {
                 by_calls.reset();
                 by_records.reset();
-                state.held = library::reset(state.held);
+                state.receiver = library::reset(state.receiver);
+                self.wrapped_states(&state, [&by_calls, &by_records], &[])?;
             }
-            self.delivered(WRAPPER, records.len());
         }
-        self.wrapped_reader(&input)
+        self.wrapped_reader(start, &input)
+    }
+
+    /// The two receivers, the first by calls and the other by its iterator, are in the library's state.
+    fn wrapped_states(
+        &mut self,
+        state: &State,
+        receivers: [&vbus::Receiver; 2],
+        chunk: &[u8],
+    ) -> Checked<()> {
+        let position = state.receiver.position;
+        for (name, receiver) in ["receive", "records"].into_iter().zip(receivers) {
+            let same = receiver.held() == state.bytes() && receiver.position() == position;
+            self.holds(same, || {
+                let (held, chunk) = (hex(state.bytes()), hex(chunk));
+                format!(
+                    "{held} held at {position} after vbus::Receiver::{name} of {chunk}: {receiver:?}"
+                )
+            })?;
+        }
+        Ok(())
     }
 
     fn wrapped_calls(
@@ -456,15 +669,18 @@ impl Checker {
         let mut used = 0;
         for expected in records {
             let received = receiver.receive(&chunk[used..]);
-            used += received.used;
-            let same = received.record.is_some_and(|record| {
-                record.length == expected.received.length && expected.is(&record.to_record())
+            let same = received.is_ok_and(|received| {
+                used += received.used;
+                let entry = received.record.map(|record| record.to_entry());
+                used == expected.used && entry.is_some_and(|entry| expected.is(&entry))
             });
-            self.holds(same && used == expected.used, what)?;
+            self.holds(same, what)?;
         }
         // Also with nothing left.
-        let received = receiver.receive(&chunk[used..]);
-        let same = received.record.is_none() && used + received.used == chunk.len();
+        let rest = &chunk[used..];
+        let same = receiver
+            .receive(rest)
+            .is_ok_and(|received| received.record.is_none() && received.used == rest.len());
         self.holds(same, what)
     }
 
@@ -482,8 +698,10 @@ impl Checker {
                 hex(chunk)
             )
         };
-        let mut given = receiver.records(chunk);
-        let first: Vec<Record> = given.by_ref().take(asked).collect();
+        let Ok(mut given) = receiver.records(chunk) else {
+            return self.holds(false, what);
+        };
+        let first: Vec<Entry> = given.by_ref().take(asked).collect();
         let (expected, left) = records.split_at(asked.min(records.len()));
         self.holds(are(&first, expected), what)?;
         if self.rng.once_in(2) {
@@ -494,31 +712,53 @@ impl Checker {
             };
             let rest = given.into_rest();
             self.holds(rest == &chunk[used..], what)?;
-            let behind: Vec<Record> = receiver.records(rest).collect();
-            self.holds(are(&behind, left), what)?;
+            let behind: Option<Vec<Entry>> = receiver.records(rest).ok().map(Iterator::collect);
+            self.holds(behind.is_some_and(|behind| are(&behind, left)), what)?;
         }
         Ok(())
     }
 
-    /// Every record comes out of a reader, and every error but interruptions.
-    fn wrapped_reader(&mut self, input: &[u8]) -> Checked<()> {
+    /// Every record comes out of a reader, and every error but interruptions; a chunk that doesn't fit
+    /// is refused each time it comes up.
+    fn wrapped_reader(&mut self, start: u64, input: &[u8]) -> Checked<()> {
         let mut reader = Unsteady {
             rest: input,
             rng: Rng::new(self.rng.next()),
             errors: 0,
         };
-        let mut records = Vec::new();
-        let mut errors = 0;
-        for record in RecordReader::new(&mut reader) {
-            match record {
-                Ok(record) => records.push(record),
-                Err(_) => errors += 1,
+        let mut records = RecordReader::with_receiver(&mut reader, vbus::Receiver::at(start));
+        let mut entries = Vec::new();
+        let (mut errors, mut refused) = (0, 0);
+        while refused < 3 {
+            match records.next() {
+                None => break,
+                Some(Ok(entry)) => entries.push(entry),
+                Some(Err(error)) if is_overflow(&error) => refused += 1,
+                Some(Err(_)) => errors += 1,
             }
         }
-        let expected = vbus::records(input).map(|entry| entry.record);
-        let same = reader.rest.is_empty() && errors == reader.errors && expected.eq(records);
-        self.holds(same, || format!("vbus::RecordReader over {}", hex(input)))
+        let used = records.receiver().position().wrapping_sub(start) as usize;
+        let what = || format!("vbus::RecordReader from {start} over {}", hex(input));
+        let Some(read) = input.get(..used) else {
+            return self.holds(false, what);
+        };
+        let expected = vbus::records(read).map(|entry| Entry {
+            position: start + entry.position,
+            ..entry
+        });
+        let fits = input.len() as u64 <= u64::MAX - start;
+        let ended = match fits {
+            true => refused == 0 && read == input && reader.rest.is_empty(),
+            false => refused == 3,
+        };
+        let same = ended && errors == reader.errors && expected.eq(entries);
+        self.holds(same, what)
     }
+}
+
+fn is_overflow(error: &io::Error) -> bool {
+    let inner = error.get_ref().and_then(|inner| inner.downcast_ref());
+    inner == Some(&Error::PositionOverflow)
 }
 
 /// Reads some bytes at a time, is often interrupted and sometimes has nothing yet.

@@ -46,7 +46,7 @@ pub extern "C" fn main() -> i32 {
 fn reading() {
     let mut buffer = [0; vbus::MAX_PAYLOAD];
     let found = vbus::next(&RECORDING, 0, &mut buffer).unwrap().unwrap();
-    assert_eq!((found.place, found.length), (3, 8));
+    assert_eq!((found.position, found.length), (3, 8));
     assert_eq!(found.header.kind(), Some(Kind::Telegram));
     assert_eq!(Line::of(found).text(), "T 2010 7731 30 01");
     let error = vbus::next(&RECORDING, 12, &mut buffer).unwrap_err();
@@ -66,18 +66,21 @@ fn reading() {
 }
 
 fn receiving() {
-    let mut receiver = Receiver::new();
+    let start = u64::MAX - 22;
+    let mut receiver = Receiver::at(start);
     let (first, second) = RECORDING.split_at(5);
-    assert_eq!(receiver.receive(first).record, None);
+    assert_eq!(receiver.receive(first).unwrap().record, None);
     assert_eq!(receiver.held(), &RECORDING[3..5]);
-    let received = receiver.receive(second);
+    let received = receiver.receive(second).unwrap();
     assert_eq!(received.used, second.len());
     let record = received.record.unwrap();
-    assert_eq!(record.length, 8);
+    assert_eq!((record.position, record.length), (start + 3, 8));
     assert_eq!(Line::of(record).text(), "T 2010 7731 30 01");
-    assert_eq!(receiver.receive(first).record, None);
+    assert_eq!(receiver.receive(first).unwrap().record, None);
     receiver.reset();
-    assert_eq!(receiver.receive(second).record, None);
+    assert_eq!(receiver.position(), start + 16);
+    assert_eq!(receiver.receive(second).unwrap().record, None);
+    assert_eq!(receiver.receive(&[0]), Err(Error::PositionOverflow));
 }
 
 fn writing() {

@@ -2,7 +2,7 @@
 //!
 //! The differential tests compare the proved library with it, and the benchmarks measure against
 //! it. It therefore shares no code with the library and follows the same interface: an answer
-//! carries a `number`, 0 on success and 1 to 11 for a refusal, and every other field of a refusal
+//! carries a `number`, 0 on success and 1 to 12 for a refusal, and every other field of a refusal
 //! is zero.
 
 #![forbid(unsafe_code)]
@@ -33,6 +33,7 @@ const NOT_A_BLOCK_PACKET: u32 = 8;
 const SECTION_TOO_LONG: u32 = 9;
 const NO_SUCH_PART: u32 = 10;
 const UNKNOWN_SECTION_TYPE: u32 = 11;
+const TOO_MANY_BYTES: u32 = 12;
 
 #[derive(Clone, Copy, PartialEq, Eq, Debug, Default)]
 pub struct Header {
@@ -59,11 +60,12 @@ pub struct Validation {
     pub unused_septets: usize,
 }
 
+/// If `found`, a record, with the position of its stream's 0xAA in the input.
 #[derive(Clone, Copy, PartialEq, Eq, Debug, Default)]
 pub struct Found {
     pub number: u32,
     pub found: bool,
-    pub place: usize,
+    pub position: u64,
     pub length: usize,
     pub header: Header,
     pub payload_length: usize,
@@ -407,7 +409,7 @@ pub fn next(input: &[u8], start: usize, payload: &mut [u8]) -> Found {
     Found {
         number: 0,
         found: true,
-        place,
+        position: place as u64,
         length: stream.length,
         header: header_of(bytes, stream.kind),
         payload_length: stream.payload_length,

@@ -2,18 +2,20 @@
 
 use super::*;
 
-/// What became of a chunk: the bytes used and, if `found`, a record.
+/// What became of a chunk: the bytes used and, if `found`, a record, with the position of its 0xAA
+/// among all bytes that the receiver used.
 #[derive(Clone, Copy, PartialEq, Eq, Debug, Default)]
 pub struct Received {
     pub number: u32,
     pub found: bool,
     pub used: usize,
+    pub position: u64,
     pub length: usize,
     pub header: Header,
     pub payload_length: usize,
 }
 
-/// Keeps the stream that the chunks so far left unfinished, if there is one.
+/// Keeps the stream that the chunks so far left unfinished, if there is one, and counts their bytes.
 ///
 /// A stream within one chunk is read where it lies; only one that a chunk's end cuts off is copied.
 #[derive(Clone, Debug)]
@@ -23,15 +25,13 @@ pub struct Receiver {
     /// The length up to which bytes are only collected: with it the stream is whole, or tells more
     /// of its length. It is above `held` while something is held.
     goal: usize,
+    /// How many bytes were used.
+    position: u64,
 }
 
 impl Default for Receiver {
     fn default() -> Receiver {
-        Receiver {
-            stream: [0; MAX_STREAM],
-            held: 0,
-            goal: 0,
-        }
+        Receiver::at(0)
     }
 }
 
@@ -40,7 +40,22 @@ impl Receiver {
         Receiver::default()
     }
 
-    /// Forgets the unfinished stream.
+    /// Holds nothing, and counts on from there.
+    pub fn at(position: u64) -> Receiver {
+        Receiver {
+            stream: [0; MAX_STREAM],
+            held: 0,
+            goal: 0,
+            position,
+        }
+    }
+
+    /// How many bytes were used, those before the position that it began at among them.
+    pub fn position(&self) -> u64 {
+        self.position
+    }
+
+    /// Forgets the unfinished stream, and only that.
     pub fn reset(&mut self) {
         self.held = 0;
     }
@@ -48,12 +63,27 @@ impl Receiver {
     /// Uses `chunk` up to the end of the first record's stream, or all of it. The record's payload
     /// goes to the start of `payload`, which must have room for any.
     pub fn receive(&mut self, chunk: &[u8], payload: &mut [u8]) -> Received {
+        let refused = |number| Received {
+            number,
+            ..Received::default()
+        };
         if payload.len() < MAX_PACKET_PAYLOAD {
-            return Received {
-                number: NO_ROOM,
-                ..Received::default()
-            };
+            return refused(NO_ROOM);
         }
+        if self.position.checked_add(chunk.len() as u64).is_none() {
+            return refused(TOO_MANY_BYTES);
+        }
+        let mut received = self.take(chunk, payload);
+        self.position += received.used as u64;
+        if received.found {
+            received.position = self.position - received.length as u64;
+        }
+        received
+    }
+
+    /// Receives without counting: the answer has no position yet.
+    #[inline]
+    fn take(&mut self, chunk: &[u8], payload: &mut [u8]) -> Received {
         let (used, stream) = self.go_on(chunk);
         if let Some(stream) = stream {
             return delivered(&self.stream[..stream.length], stream, used, payload);
@@ -157,6 +187,7 @@ fn delivered(bytes: &[u8], stream: Stream, used: usize, payload: &mut [u8]) -> R
         number: 0,
         found: true,
         used,
+        position: 0,
         length: stream.length,
         header: header_of(bytes, stream.kind),
         payload_length: stream.payload_length,

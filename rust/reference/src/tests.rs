@@ -80,7 +80,7 @@ fn round_trip(stream: &[u8]) -> (Header, Vec<u8>) {
     let mut payload = [0; 508];
     let found = next(stream, 0, &mut payload);
     assert_eq!((found.number, found.found), (0, true));
-    assert_eq!((found.place, found.length), (0, stream.len()));
+    assert_eq!((found.position, found.length), (0, stream.len()));
     let payload = payload[..found.payload_length].to_vec();
     let mut out = vec![0; stream.len()];
     let written = encode(found.header, &payload, &mut out);
@@ -209,7 +209,7 @@ fn finding_records() {
     let mut payload = [0xEE; 5];
     let found = next(&input, 0, &mut payload);
     assert_eq!(
-        (found.place, found.length, found.payload_length),
+        (found.position, found.length, found.payload_length),
         (1, 16, 4)
     );
     assert_eq!(payload, [0x07, 0x04, 0x0F, 0x00, 0xEE]);
@@ -231,7 +231,7 @@ fn a_record_inside_a_damaged_stream() {
     let mut input = vec![0xAA, 0x11, 0x44, 0x10, 0x66, 0x10, 0x00, 0x02, 0x7F, 0x23];
     assert_eq!(validate(&input), verdict(7, 10));
     input.extend(T1);
-    assert_eq!(next(&input, 0, &mut []).place, 10);
+    assert_eq!(next(&input, 0, &mut []).position, 10);
     assert_eq!(next(&input, 18, &mut []), Found::default());
 }
 
@@ -424,32 +424,33 @@ fn hostile_input_takes_linear_time() {
     assert_eq!(normalize(&input, &mut []), Written::default());
 }
 
-/// What a receiver makes of the chunks: every record with its place.
+/// A record with its position.
+type Positioned = (u64, Header, Vec<u8>);
+
+/// What a receiver makes of the chunks.
 fn receive_all<'c>(
     receiver: &mut Receiver,
     chunks: impl Iterator<Item = &'c [u8]>,
-) -> Vec<(usize, Header, Vec<u8>)> {
+) -> Vec<Positioned> {
     let mut payload = [0; 508];
     let mut records = Vec::new();
-    let mut total = 0;
     for mut chunk in chunks {
         while !chunk.is_empty() {
             let answer = receiver.receive(chunk, &mut payload);
             assert_eq!(answer.number, 0);
             assert!(answer.found || answer.used == chunk.len());
-            total += answer.used;
             chunk = &chunk[answer.used..];
             if answer.found {
                 let payload = payload[..answer.payload_length].to_vec();
-                records.push((total - answer.length, answer.header, payload));
+                records.push((answer.position, answer.header, payload));
             }
         }
     }
     records
 }
 
-/// The same by `next` over the whole recording.
-fn next_all(input: &[u8]) -> Vec<(usize, Header, Vec<u8>)> {
+/// The same by `next` over a whole recording that begins at that position.
+fn next_all(from: u64, input: &[u8]) -> Vec<Positioned> {
     let mut payload = [0; 508];
     let mut records = Vec::new();
     let mut start = 0;
@@ -459,8 +460,8 @@ fn next_all(input: &[u8]) -> Vec<(usize, Header, Vec<u8>)> {
             return records;
         }
         let payload = payload[..found.payload_length].to_vec();
-        records.push((found.place, found.header, payload));
-        start = found.place + found.length;
+        records.push((from + found.position, found.header, payload));
+        start = found.position as usize + found.length;
     }
 }
 
@@ -488,12 +489,35 @@ fn samples_and_damage() -> Vec<u8> {
 #[test]
 fn receiving_in_chunks_of_every_length() {
     let input = samples_and_damage();
-    let expected = next_all(&input);
-    assert_eq!(expected.len(), 14);
-    for length in 1..=input.len() {
-        let received = receive_all(&mut Receiver::new(), input.chunks(length));
-        assert_eq!(received, expected, "in chunks of {length}");
+    // The last one just lets the recording fit.
+    let most = u64::MAX - input.len() as u64;
+    for from in [0, 1, (1 << 32) - 100, (1 << 63) - 100, most] {
+        let expected = next_all(from, &input);
+        assert_eq!(expected.len(), 14);
+        for length in 1..=input.len() {
+            let mut receiver = Receiver::at(from);
+            let received = receive_all(&mut receiver, input.chunks(length));
+            assert_eq!(received, expected, "in chunks of {length}");
+            assert_eq!(receiver.position(), from + input.len() as u64);
+        }
     }
+}
+
+#[test]
+fn positions_of_known_bytes() {
+    let input = [&[0x00, 0xAA][..], &P1, &[0x10], &T1, &D1[..9], &T2].concat();
+    let positions = |records: Vec<Positioned>| -> Vec<u64> {
+        records.into_iter().map(|(position, ..)| position).collect()
+    };
+    assert_eq!(positions(next_all(0, &input)), [2, 19, 36]);
+    let mut receiver = Receiver::new();
+    let received = receive_all(&mut receiver, input.chunks(5));
+    assert_eq!(positions(received), [2, 19, 36]);
+    assert_eq!(receiver.position(), 53);
+    receiver.reset();
+    assert_eq!(receiver.position(), 53);
+    let received = receive_all(&mut receiver, input.chunks(5));
+    assert_eq!(positions(received), [55, 72, 89]);
 }
 
 #[test]
@@ -502,9 +526,11 @@ fn receiving_from_every_byte_after_a_reset() {
     let mut receiver = Receiver::new();
     for at in 0..=input.len() {
         receive_all(&mut receiver, input[..at].chunks(7));
+        let from = receiver.position();
         receiver.reset();
+        assert_eq!(receiver.position(), from);
         let received = receive_all(&mut receiver, input[at..].chunks(7));
-        assert_eq!(received, next_all(&input[at..]), "from byte {at}");
+        assert_eq!(received, next_all(from, &input[at..]), "from byte {at}");
     }
 }
 
@@ -528,6 +554,7 @@ fn receiving_the_longest_stream() {
             number: 0,
             found: true,
             used: 772 - at,
+            position: 0,
             length: 772,
             header,
             payload_length: 508,
@@ -537,25 +564,77 @@ fn receiving_the_longest_stream() {
     }
 }
 
+fn refused(number: u32) -> Received {
+    Received {
+        number,
+        ..Received::default()
+    }
+}
+
 #[test]
 fn receiving_without_room() {
     let mut receiver = Receiver::new();
     let mut payload = [0xEE; 509];
     assert_eq!(receiver.receive(&P1[..15], &mut payload).used, 15);
     for room in [0, 4, 507] {
-        let refused = receiver.receive(&P1[15..], &mut payload[..room]);
-        let expected = Received {
-            number: 5,
-            ..Received::default()
-        };
-        assert_eq!(refused, expected);
+        let answer = receiver.receive(&P1[15..], &mut payload[..room]);
+        assert_eq!(answer, refused(5));
     }
     assert_eq!(receiver.receive(&[], &mut payload[..507]).number, 5);
+    assert_eq!(receiver.position(), 15);
     let empty = receiver.receive(&[], &mut payload);
     assert_eq!(empty, Received::default());
     assert_eq!(payload, [0xEE; 509]);
     assert!(receiver.receive(&P1[15..], &mut payload[..508]).found);
     assert_eq!(payload[..5], [0x07, 0x04, 0x0F, 0x00, 0xEE]);
+}
+
+/// Chunks that the count has just no room for, and just room for, with and without payload room.
+#[test]
+fn receiving_at_the_largest_position() {
+    for n in (0usize..=20).chain([771, 772, 773]) {
+        for length in [n + 1, n, n.saturating_sub(1)] {
+            let chunk: Vec<u8> = T1.into_iter().cycle().take(length).collect();
+            let start = u64::MAX - n as u64;
+            let mut receiver = Receiver::at(start);
+            let mut payload = [0xEE; 508];
+            let short = receiver.receive(&chunk, &mut payload[..507]);
+            assert_eq!(short, refused(5));
+            assert_eq!(receiver.position(), start);
+            if length > n {
+                assert_eq!(receiver.receive(&chunk, &mut payload), refused(12));
+                assert_eq!(receiver.position(), start);
+                assert_eq!(payload, [0xEE; 508]);
+            } else {
+                let received = receive_all(&mut receiver, [&chunk[..]].into_iter());
+                assert_eq!(received, next_all(start, &chunk));
+                assert_eq!(receiver.position(), start + length as u64);
+            }
+        }
+    }
+}
+
+/// The refusal keeps the unfinished stream; its last byte has the largest position but one.
+#[test]
+fn refused_at_the_largest_position_nothing_is_lost() {
+    let start = u64::MAX - 16;
+    let mut receiver = Receiver::at(start);
+    let mut payload = [0xEE; 508];
+    assert_eq!(receiver.receive(&P1[..9], &mut payload).used, 9);
+    let chunk = [&P1[9..], &[0x00]].concat();
+    for _ in 0..2 {
+        assert_eq!(receiver.receive(&chunk, &mut payload), refused(12));
+    }
+    let answer = receiver.receive(&P1[9..], &mut payload);
+    assert_eq!((answer.found, answer.used), (true, 7));
+    assert_eq!((answer.position, answer.length), (start, 16));
+    // Nothing more fits, also after a reset.
+    for _ in 0..2 {
+        assert_eq!(receiver.receive(&[0x00], &mut payload), refused(12));
+        let empty = receiver.receive(&[], &mut payload);
+        assert_eq!(empty, Received::default());
+        receiver.reset();
+    }
 }
 
 fn fault_lines(input: &[u8]) -> Vec<String> {

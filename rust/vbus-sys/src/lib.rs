@@ -51,8 +51,8 @@ pub struct Found {
     pub number: u32,
     /// Whether there is a record.
     pub found: bool,
-    /// Where its stream starts.
-    pub place: usize,
+    /// The position of its 0xAA, counted from the input's start.
+    pub position: u64,
     /// The length of its stream.
     pub length: usize,
     /// The record but for its payload.
@@ -89,6 +89,8 @@ pub struct Fault {
 pub struct Receiver {
     /// Bytes of an unfinished stream, at the start of the memory.
     pub held: usize,
+    /// Bytes used so far.
+    pub position: u64,
 }
 
 /// What a chunk brought.
@@ -101,6 +103,8 @@ pub struct Received {
     pub found: bool,
     /// Bytes of the chunk that were used.
     pub used: usize,
+    /// The position of the record's 0xAA among all bytes used.
+    pub position: u64,
     /// The length of the record's stream.
     pub length: usize,
     /// The record but for its payload.
@@ -192,7 +196,7 @@ extern "C" {
         room: usize,
     ) -> Received;
 
-    /// Forgets the unfinished stream.
+    /// Forgets the unfinished stream; the position stays.
     pub fn vbus_reset(receiver: Receiver) -> Receiver;
 
     /// Writes a record's stream.

@@ -74,6 +74,7 @@ numbered! {
         9 SectionPastEnd "a section runs past the payload's end";
         10 NoSuchPart "there is no section or element with that number";
         11 UnknownSectionType "the section's type has no known element size";
+        12 PositionOverflow "the chunk would take the position past the largest 64-bit number";
     }
 }
 

@@ -12,7 +12,7 @@
 //! ];
 //! let entries: Vec<vbus::Entry> = vbus::records(&recording).collect();
 //! assert_eq!(entries.len(), 1);
-//! assert_eq!((entries[0].place, entries[0].length), (2, 16));
+//! assert_eq!((entries[0].position, entries[0].length), (2, 16));
 //! assert_eq!(entries[0].record.header.source, 0x6610);
 //! assert_eq!(entries[0].record.payload, [0x07, 0x04, 0x0F, 0x00]);
 //! assert_eq!(entries[0].record.to_string(), "P 4411 6610 10 0200 07040F00");
@@ -22,20 +22,24 @@
 //! What arrives in chunks, such as from a serial port, is read with a [`Receiver`], or with a
 //! `RecordReader` over anything that implements `std::io::Read`.
 //!
+//! Every record carries the position of its 0xAA, in 64 bits: from the start of the input, or of all
+//! that the receiver used.
+//!
 //! Why a 0xAA, with which every stream begins, gave no record is told by [`faults`].
 //!
 //! The archive is taken from the folder that the environment variable `VBUS_LIB_DIR` names at
 //! build time, else from `target/staticlib` at the repository's top, where `./build vbus` puts it.
 //!
 //! Without the feature `std`, which is on by default, this crate uses `core` alone and has no heap:
-//! [`next`] and [`Found`] do what `records` and `Record` do with it, a [`Receiver`] gives a
-//! [`Delivered`], [`encode`] and [`normalize`] write to a buffer.
+//! [`next`], a [`Receiver`] and [`Found`] do what `records`, `RecordReader` and `Entry` do with it,
+//! [`encode`] and [`normalize`] write to a buffer.
 
 #![cfg_attr(not(feature = "std"), no_std)]
 #![deny(missing_docs)]
 
 mod error;
 mod faults;
+mod found;
 mod header;
 mod receiver;
 #[cfg(feature = "std")]
@@ -46,18 +50,16 @@ mod sections;
 
 pub use error::{Error, Fault, Verdict};
 pub use faults::{faults, FaultEntry, Faults};
+pub use found::Found;
 pub use header::{Header, Kind};
 #[cfg(feature = "std")]
 pub use receiver::ReceivedRecords;
-pub use receiver::{Delivered, Received, Receiver};
+pub use receiver::{Received, Receiver};
 #[cfg(feature = "std")]
 pub use record::{encode_to_vec, normalize_to_vec, records, Entry, Record, Records};
 #[cfg(feature = "std")]
 pub use record_reader::RecordReader;
 pub use sections::{section, sections, Elements, Section, Sections};
-
-use core::fmt;
-use header::{datagram_payload, write_line};
 
 /// The longest payload, that of a packet with 127 frames.
 pub const MAX_PAYLOAD: usize = 508;
@@ -167,73 +169,6 @@ pub fn validate(input: &[u8]) -> Result<Whole, Fault> {
     }
 }
 
-/// A record found by [`next`], its payload in the caller's buffer.
-#[derive(Clone, Copy, PartialEq, Eq, Hash, Debug)]
-pub struct Found<'b> {
-    /// Where the record's stream starts.
-    pub place: usize,
-    /// The length of the record's stream.
-    pub length: usize,
-    /// Everything of the record but its payload.
-    pub header: Header,
-    /// The payload, with its top bits.
-    pub payload: &'b [u8],
-}
-
-impl<'b> Found<'b> {
-    /// A datagram's parameter; `None` for other kinds and other payloads than of six bytes.
-    ///
-    /// ```
-    /// let stream = [
-    ///     0xAA, 0x20, 0x00, 0x11, 0x19, 0x20, 0x00, 0x02, // header
-    ///     0x34, 0x12, 0x7E, 0x7F, 0x7F, 0x7F, 0x3C, 0x16, // parameter and value
-    /// ];
-    /// let mut buffer = [0; vbus::MAX_PAYLOAD];
-    /// let found = vbus::next(&stream, 0, &mut buffer)?.unwrap();
-    /// assert_eq!(found.parameter(), Some(0x1234));
-    /// # Ok::<(), vbus::Error>(())
-    /// ```
-    pub fn parameter(&self) -> Option<u16> {
-        datagram_payload(self.header, self.payload).map(parameter)
-    }
-
-    /// A datagram's value; `None` for other kinds and other payloads than of six bytes.
-    ///
-    /// ```
-    /// let stream = [
-    ///     0xAA, 0x20, 0x00, 0x11, 0x19, 0x20, 0x00, 0x02, // header
-    ///     0x34, 0x12, 0x7E, 0x7F, 0x7F, 0x7F, 0x3C, 0x16, // parameter and value
-    /// ];
-    /// let mut buffer = [0; vbus::MAX_PAYLOAD];
-    /// let found = vbus::next(&stream, 0, &mut buffer)?.unwrap();
-    /// assert_eq!(found.value(), Some(-2));
-    /// # Ok::<(), vbus::Error>(())
-    /// ```
-    pub fn value(&self) -> Option<i32> {
-        datagram_payload(self.header, self.payload).map(value)
-    }
-
-    /// The sections of a block packet.
-    pub fn sections(&self) -> Result<Sections<'b>, Error> {
-        sections(self.header, self.payload)
-    }
-}
-
-/// The record's line of a listing, without the newline.
-///
-/// ```
-/// let input = [0xAA, 0x10, 0x20, 0x31, 0x77, 0x30, 0x01, 0x76];
-/// let mut buffer = [0; vbus::MAX_PAYLOAD];
-/// let found = vbus::next(&input, 0, &mut buffer)?.unwrap();
-/// assert_eq!(found.to_string(), "T 2010 7731 30 01");
-/// # Ok::<(), vbus::Error>(())
-/// ```
-impl fmt::Display for Found<'_> {
-    fn fmt(&self, f: &mut fmt::Formatter<'_>) -> fmt::Result {
-        write_line(f, self.header, self.payload)
-    }
-}
-
 /// The first record of `input` at or after `start`, without allocating.
 ///
 /// The payload goes to the start of `buffer`; [`MAX_PAYLOAD`] bytes always suffice.
@@ -242,10 +177,10 @@ impl fmt::Display for Found<'_> {
 /// let input = [0xAA, 0x10, 0x20, 0x31, 0x77, 0x30, 0x01, 0x76];
 /// let mut buffer = [0; vbus::MAX_PAYLOAD];
 /// let found = vbus::next(&input, 0, &mut buffer)?.unwrap();
-/// assert_eq!((found.place, found.length), (0, 8));
+/// assert_eq!((found.position, found.length), (0, 8));
 /// assert_eq!(found.header.destination, 0x2010);
 /// assert!(found.payload.is_empty());
-/// assert_eq!(vbus::next(&input, 8, &mut buffer)?, None);
+/// assert_eq!(vbus::next(&input, found.end(), &mut buffer)?, None);
 /// # Ok::<(), vbus::Error>(())
 /// ```
 pub fn next<'b>(
@@ -259,7 +194,7 @@ pub fn next<'b>(
     let answer = unsafe { vbus_sys::vbus_next(input.as_ptr(), input.len(), start, pointer, room) };
     check(answer.number)?;
     Ok(answer.found.then(|| Found {
-        place: answer.place,
+        position: answer.position,
         length: answer.length,
         header: Header::from_sys(answer.header),
         payload: &buffer[..answer.payload_length],

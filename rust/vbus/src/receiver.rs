@@ -6,32 +6,38 @@ use core::iter::FusedIterator;
 #[cfg(feature = "std")]
 use core::mem;
 
-use crate::header::{datagram_payload, write_line};
-use crate::sections::{sections, Sections};
 #[cfg(feature = "std")]
-use crate::Record;
-use crate::{check, parameter, value, Error, Header, MAX_PAYLOAD, MAX_STREAM};
+use crate::Entry;
+use crate::{check, Error, Found, Header, MAX_PAYLOAD, MAX_STREAM};
 
 /// Takes in bytes as they arrive, a chunk at a time, and keeps an unfinished stream between calls.
 ///
 /// However a recording is cut, a fresh receiver that all of it is handed to gives the records of the
-/// whole recording, in order.
+/// whole recording, in order, at their positions there.
 ///
 /// ```
 /// let telegram = [0xAA, 0x10, 0x20, 0x31, 0x77, 0x30, 0x01, 0x76];
 /// let mut receiver = vbus::Receiver::new();
-/// assert_eq!(receiver.receive(&telegram[..5]).record, None);
+/// assert_eq!(receiver.receive(&[0x00, 0x00])?.record, None);
+/// assert_eq!(receiver.receive(&telegram[..5])?.record, None);
 /// assert_eq!(receiver.held(), &telegram[..5]);
 ///
 /// let chunk = [0x30, 0x01, 0x76, 0xAA];
-/// let received = receiver.receive(&chunk);
+/// let received = receiver.receive(&chunk)?;
 /// assert_eq!(received.used, 3);
-/// assert_eq!(received.record.unwrap().header.source, 0x7731);
+/// let record = received.record.unwrap();
+/// assert_eq!((record.position, record.length), (2, 8));
+/// assert_eq!(record.header.source, 0x7731);
+/// assert_eq!(receiver.position(), 10);
 ///
 /// // What is left of the chunk is handed over in the next call.
-/// let received = receiver.receive(&chunk[3..]);
+/// let received = receiver.receive(&chunk[3..])?;
 /// assert_eq!((received.used, received.record), (1, None));
+/// # Ok::<(), vbus::Error>(())
 /// ```
+///
+/// It counts the bytes used in 64 bits. A chunk that would take the count further is refused; on a
+/// bus that takes hundreds of millions of years.
 ///
 /// It needs no heap: it owns its buffers, some 1,300 bytes, and [`Receiver::new`] is `const`, so that
 /// it can be part of a `static`.
@@ -43,10 +49,25 @@ pub struct Receiver {
 }
 
 impl Receiver {
-    /// A fresh receiver, which holds nothing.
+    /// A fresh receiver, which holds nothing and used nothing.
     pub const fn new() -> Receiver {
+        Receiver::at(0)
+    }
+
+    /// A receiver that holds nothing and counts on from `position`, such as where an earlier
+    /// recording or an earlier receiver ended.
+    ///
+    /// ```
+    /// let telegram = [0xAA, 0x10, 0x20, 0x31, 0x77, 0x30, 0x01, 0x76];
+    /// let mut receiver = vbus::Receiver::at(5_000_000_000);
+    /// let received = receiver.receive(&telegram)?;
+    /// assert_eq!(received.record.unwrap().position, 5_000_000_000);
+    /// assert_eq!(receiver.position(), 5_000_000_008);
+    /// # Ok::<(), vbus::Error>(())
+    /// ```
+    pub const fn at(position: u64) -> Receiver {
         Receiver {
-            state: vbus_sys::Receiver { held: 0 },
+            state: vbus_sys::Receiver { held: 0, position },
             memory: [0; MAX_STREAM],
             payload: [0; MAX_PAYLOAD],
         }
@@ -62,54 +83,78 @@ impl Receiver {
     /// let chunk = [telegram, telegram].concat();
     /// let mut receiver = vbus::Receiver::new();
     /// let mut rest = &chunk[..];
-    /// let mut records = 0;
+    /// let mut positions = Vec::new();
     /// while !rest.is_empty() {
-    ///     let received = receiver.receive(rest);
+    ///     let received = receiver.receive(rest)?;
     ///     rest = &rest[received.used..];
     ///     if let Some(record) = received.record {
     ///         assert_eq!(record.to_string(), "T 2010 7731 30 01");
-    ///         records += 1;
+    ///         positions.push(record.position);
     ///     }
     /// }
-    /// assert_eq!(records, 2);
+    /// assert_eq!(positions, [0, 8]);
+    /// # Ok::<(), vbus::Error>(())
     /// ```
-    pub fn receive(&mut self, chunk: &[u8]) -> Received<'_> {
+    ///
+    /// The only refusal is [`Error::PositionOverflow`]: the chunk, wholly used, would take the
+    /// receiver's position past the largest 64-bit number. Nothing is used and nothing changes then.
+    ///
+    /// ```
+    /// let mut receiver = vbus::Receiver::at(u64::MAX - 2);
+    /// assert_eq!(receiver.receive(&[0; 3]), Err(vbus::Error::PositionOverflow));
+    /// assert_eq!(receiver.receive(&[0; 2])?.used, 2);
+    /// assert_eq!(receiver.position(), u64::MAX);
+    /// # Ok::<(), vbus::Error>(())
+    /// ```
+    pub fn receive(&mut self, chunk: &[u8]) -> Result<Received<'_>, Error> {
         let (from, n) = (chunk.as_ptr(), chunk.len());
         let (to, room) = (self.payload.as_mut_ptr(), self.payload.len());
         // SAFETY: pointers and counts are those of a slice and of two arrays; the arrays are
         // borrowed mutably, so nothing overlaps them.
         let answer =
             unsafe { vbus_sys::vbus_receive(self.state, &mut self.memory, from, n, to, room) };
-        check(answer.number).expect("every payload fits");
+        check(answer.number)?;
         self.state = answer.receiver;
-        Received {
+        Ok(Received {
             used: answer.used,
-            record: answer.found.then(|| Delivered {
+            record: answer.found.then(|| Found {
+                position: answer.position,
                 length: answer.length,
                 header: Header::from_sys(answer.header),
                 payload: &self.payload[..answer.payload_length],
             }),
-        }
+        })
     }
 
     /// The records that end in `chunk`, in order; all of it is used, also if not all of them are
-    /// asked for.
+    /// asked for. Refused as [`Receiver::receive`] refuses the whole chunk, before any of it is used.
     ///
     /// ```
     /// let telegram = [0xAA, 0x10, 0x20, 0x31, 0x77, 0x30, 0x01, 0x76];
     /// let mut receiver = vbus::Receiver::new();
-    /// let mut sources = Vec::new();
+    /// let mut positions = Vec::new();
     /// for chunk in [&telegram[..3], &telegram[3..], &[], &[telegram, telegram].concat()] {
-    ///     sources.extend(receiver.records(chunk).map(|record| record.header.source));
+    ///     positions.extend(receiver.records(chunk)?.map(|entry| entry.position));
     /// }
-    /// assert_eq!(sources, [0x7731; 3]);
+    /// assert_eq!(positions, [0, 8, 16]);
+    /// # Ok::<(), vbus::Error>(())
     /// ```
     #[cfg(feature = "std")]
-    pub fn records<'r, 'c>(&'r mut self, chunk: &'c [u8]) -> ReceivedRecords<'r, 'c> {
-        ReceivedRecords {
+    pub fn records<'r, 'c>(
+        &'r mut self,
+        chunk: &'c [u8],
+    ) -> Result<ReceivedRecords<'r, 'c>, Error> {
+        let end = self.position().checked_add(chunk.len() as u64);
+        end.ok_or(Error::PositionOverflow)?;
+        Ok(ReceivedRecords {
             receiver: self,
             rest: chunk,
-        }
+        })
+    }
+
+    /// How many bytes were used so far, those before the position that it began at among them.
+    pub fn position(&self) -> u64 {
+        self.state.position
     }
 
     /// The bytes of the unfinished stream, which the next chunk may go on with.
@@ -120,15 +165,19 @@ impl Receiver {
         &self.memory[..self.state.held]
     }
 
-    /// Forgets the unfinished stream: what follows is received as by a fresh receiver.
+    /// Forgets the unfinished stream: what follows is received as by a fresh receiver, but that the
+    /// position stays and counts on.
     ///
     /// ```
     /// let telegram = [0xAA, 0x10, 0x20, 0x31, 0x77, 0x30, 0x01, 0x76];
     /// let mut receiver = vbus::Receiver::new();
-    /// assert_eq!(receiver.receive(&telegram[..5]).used, 5);
+    /// assert_eq!(receiver.receive(&telegram[..5])?.used, 5);
     /// receiver.reset();
-    /// assert_eq!(receiver.receive(&telegram[5..]).record, None);
-    /// assert!(receiver.receive(&telegram).record.is_some());
+    /// assert_eq!(receiver.position(), 5);
+    /// assert_eq!(receiver.receive(&telegram[5..])?.record, None);
+    /// let received = receiver.receive(&telegram)?;
+    /// assert_eq!(received.record.unwrap().position, 8);
+    /// # Ok::<(), vbus::Error>(())
     /// ```
     pub fn reset(&mut self) {
         // SAFETY: it takes no pointer.
@@ -142,10 +191,11 @@ impl Default for Receiver {
     }
 }
 
-/// Shows the bytes held; the others have no meaning.
+/// Shows the position and the bytes held; the other bytes have no meaning.
 impl fmt::Debug for Receiver {
     fn fmt(&self, f: &mut fmt::Formatter<'_>) -> fmt::Result {
         f.debug_struct("Receiver")
+            .field("position", &self.position())
             .field("held", &self.held())
             .finish()
     }
@@ -158,51 +208,7 @@ pub struct Received<'r> {
     /// How many bytes of the chunk were used: all of them if there is no record.
     pub used: usize,
     /// The record whose stream ends with the last byte used.
-    pub record: Option<Delivered<'r>>,
-}
-
-/// A record delivered by a [`Receiver`], its payload in the receiver's buffer.
-#[derive(Clone, Copy, PartialEq, Eq, Hash, Debug)]
-pub struct Delivered<'r> {
-    /// The length of the record's stream, which may have begun in an earlier chunk.
-    pub length: usize,
-    /// Everything of the record but its payload.
-    pub header: Header,
-    /// The payload, with its top bits.
-    pub payload: &'r [u8],
-}
-
-impl<'r> Delivered<'r> {
-    /// A datagram's parameter; `None` for other kinds and other payloads than of six bytes.
-    pub fn parameter(&self) -> Option<u16> {
-        datagram_payload(self.header, self.payload).map(parameter)
-    }
-
-    /// A datagram's value; `None` for other kinds and other payloads than of six bytes.
-    pub fn value(&self) -> Option<i32> {
-        datagram_payload(self.header, self.payload).map(value)
-    }
-
-    /// The sections of a block packet.
-    pub fn sections(&self) -> Result<Sections<'r>, Error> {
-        sections(self.header, self.payload)
-    }
-
-    /// A copy that doesn't borrow from the receiver.
-    #[cfg(feature = "std")]
-    pub fn to_record(&self) -> Record {
-        Record {
-            header: self.header,
-            payload: self.payload.to_vec(),
-        }
-    }
-}
-
-/// The record's line of a listing, without the newline.
-impl fmt::Display for Delivered<'_> {
-    fn fmt(&self, f: &mut fmt::Formatter<'_>) -> fmt::Result {
-        write_line(f, self.header, self.payload)
-    }
+    pub record: Option<Found<'r>>,
 }
 
 /// The records that end in a chunk, in order. Made by [`Receiver::records`].
@@ -226,30 +232,38 @@ impl<'c> ReceivedRecords<'_, 'c> {
     /// let telegram = [0xAA, 0x10, 0x20, 0x31, 0x77, 0x30, 0x01, 0x76];
     /// let chunk = [telegram, telegram].concat();
     /// let mut receiver = vbus::Receiver::new();
-    /// let mut records = receiver.records(&chunk);
+    /// let mut records = receiver.records(&chunk)?;
     /// assert!(records.next().is_some());
     /// let rest = records.into_rest();
     /// assert_eq!(rest, telegram);
-    /// assert_eq!(receiver.records(rest).count(), 1);
+    /// assert_eq!(receiver.records(rest)?.count(), 1);
+    /// # Ok::<(), vbus::Error>(())
     /// ```
     pub fn into_rest(mut self) -> &'c [u8] {
         // Nothing is left to be used when it is dropped.
         mem::take(&mut self.rest)
     }
+
+    /// Hands the rest over once.
+    fn receive_rest(&mut self) -> Option<Found<'_>> {
+        // What a call uses moves from the rest to the position: their sum stays that of the whole
+        // chunk, which `Receiver::records` found small enough.
+        let received = self.receiver.receive(self.rest).expect("the chunk fits");
+        self.rest = &self.rest[received.used..];
+        received.record
+    }
 }
 
 #[cfg(feature = "std")]
 impl Iterator for ReceivedRecords<'_, '_> {
-    type Item = Record;
+    type Item = Entry;
 
-    fn next(&mut self) -> Option<Record> {
+    fn next(&mut self) -> Option<Entry> {
         // An empty rest brings no record: a call with it would change nothing.
         if self.rest.is_empty() {
             return None;
         }
-        let received = self.receiver.receive(self.rest);
-        self.rest = &self.rest[received.used..];
-        received.record.map(|record| record.to_record())
+        self.receive_rest().map(|record| record.to_entry())
     }
 }
 
@@ -260,8 +274,7 @@ impl FusedIterator for ReceivedRecords<'_, '_> {}
 impl Drop for ReceivedRecords<'_, '_> {
     fn drop(&mut self) {
         while !self.rest.is_empty() {
-            let received = self.receiver.receive(self.rest);
-            self.rest = &self.rest[received.used..];
+            self.receive_rest();
         }
     }
 }

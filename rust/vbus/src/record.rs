@@ -153,11 +153,13 @@ impl fmt::Display for Record {
     }
 }
 
-/// A record of a recording, and where its stream lies there.
+/// A record, and where its stream lies. Two records are the same, wherever they stand, if their
+/// `record`s are equal.
 #[derive(Clone, PartialEq, Eq, Hash, Debug)]
 pub struct Entry {
-    /// Where the record's stream starts.
-    pub place: usize,
+    /// The position of the record's 0xAA, from the start of the recording, or of all that the
+    /// [`Receiver`](crate::Receiver) used.
+    pub position: u64,
     /// The length of the record's stream.
     pub length: usize,
     /// The record.
@@ -176,8 +178,8 @@ pub struct Records<'a> {
 /// ```
 /// let stream = [0xAA, 0x10, 0x20, 0x31, 0x77, 0x30, 0x01, 0x76];
 /// let recording = [&stream[..], &stream[..5], &stream[..]].concat();
-/// let places: Vec<usize> = vbus::records(&recording).map(|entry| entry.place).collect();
-/// assert_eq!(places, [0, 13]);
+/// let positions: Vec<u64> = vbus::records(&recording).map(|entry| entry.position).collect();
+/// assert_eq!(positions, [0, 13]);
 /// ```
 pub fn records(recording: &[u8]) -> Records<'_> {
     Records {
@@ -194,15 +196,8 @@ impl Iterator for Records<'_> {
         let found = next(self.input, self.start, &mut buffer)
             .expect("the start lies in the input and every payload fits");
         // Where there is none, nothing is left to be looked at.
-        self.start = found.map_or(self.input.len(), |found| found.place + found.length);
-        found.map(|found| Entry {
-            place: found.place,
-            length: found.length,
-            record: Record {
-                header: found.header,
-                payload: found.payload.to_vec(),
-            },
-        })
+        self.start = found.map_or(self.input.len(), |found| found.end());
+        found.map(|found| found.to_entry())
     }
 }
 

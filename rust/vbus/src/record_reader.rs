@@ -2,7 +2,7 @@
 
 use std::io::{self, BufRead, BufReader, ErrorKind, Read};
 
-use crate::{Receiver, Record};
+use crate::{Entry, Receiver};
 
 /// The records that a reader gives, such as a serial port or a file, in order.
 ///
@@ -15,8 +15,10 @@ use crate::{Receiver, Record};
 ///     0xAA, 0x10, 0x20, // cut off
 ///     0xAA, 0x10, 0x20, 0x31, 0x77, 0x30, 0x01, 0x76,
 /// ];
-/// for record in vbus::RecordReader::new(&recording[..]) {
-///     assert_eq!(record?.to_string(), "T 2010 7731 30 01");
+/// for entry in vbus::RecordReader::new(&recording[..]) {
+///     let entry = entry?;
+///     assert_eq!(entry.position, 3);
+///     assert_eq!(entry.record.to_string(), "T 2010 7731 30 01");
 /// }
 /// # Ok(())
 /// # }
@@ -25,7 +27,8 @@ use crate::{Receiver, Record};
 /// A read that is interrupted is repeated. Any other error is handed on, and nothing is lost by it:
 /// asked again, as after a port's timeout, this reads on where it was, also within a stream. The same
 /// holds after its end, for a file that grows. A reader that fails for good gives its error each
-/// time it is asked.
+/// time it is asked; and so does a receiver that can't count on
+/// ([`Error::PositionOverflow`](crate::Error::PositionOverflow), in an error of kind `Other`).
 #[derive(Debug)]
 pub struct RecordReader<R> {
     reader: BufReader<R>,
@@ -33,11 +36,34 @@ pub struct RecordReader<R> {
 }
 
 impl<R: Read> RecordReader<R> {
-    /// Reads records from `reader`.
+    /// Reads records from `reader`, with a fresh receiver.
     pub fn new(reader: R) -> RecordReader<R> {
+        RecordReader::with_receiver(reader, Receiver::new())
+    }
+
+    /// Goes on with a receiver: with what it holds and from its position.
+    ///
+    /// After a port was opened again positions go on, and what was left unfinished is forgotten:
+    ///
+    /// ```
+    /// # fn main() -> std::io::Result<()> {
+    /// # let telegram = [0xAA, 0x10, 0x20, 0x31, 0x77, 0x30, 0x01, 0x76];
+    /// # let (port, reopened) = (&telegram[..5], &telegram[..]);
+    /// use vbus::RecordReader;
+    ///
+    /// let mut records = RecordReader::new(port); // gives five bytes of a stream, then ends
+    /// assert!(records.next().is_none());
+    /// let mut receiver = records.receiver().clone();
+    /// receiver.reset();
+    /// let mut records = RecordReader::with_receiver(reopened, receiver);
+    /// assert_eq!(records.next().unwrap()?.position, 5);
+    /// # Ok(())
+    /// # }
+    /// ```
+    pub fn with_receiver(reader: R, receiver: Receiver) -> RecordReader<R> {
         RecordReader {
             reader: BufReader::new(reader),
-            receiver: Receiver::new(),
+            receiver,
         }
     }
 }
@@ -54,11 +80,13 @@ impl<R> RecordReader<R> {
         self.reader.get_mut()
     }
 
-    /// The receiver that the bytes went to so far; it tells whether a stream was left unfinished.
+    /// The receiver that the bytes went to so far; it tells how many these were, and whether a stream
+    /// was left unfinished.
     ///
     /// ```
-    /// let mut records = vbus::RecordReader::new(&[0xAA, 0x10, 0x20][..]);
+    /// let mut records = vbus::RecordReader::new(&[0x00, 0xAA, 0x10, 0x20][..]);
     /// assert!(records.next().is_none());
+    /// assert_eq!(records.receiver().position(), 4);
     /// assert_eq!(records.receiver().held(), [0xAA, 0x10, 0x20]);
     /// ```
     pub fn receiver(&self) -> &Receiver {
@@ -73,9 +101,9 @@ impl<R> RecordReader<R> {
 }
 
 impl<R: Read> Iterator for RecordReader<R> {
-    type Item = io::Result<Record>;
+    type Item = io::Result<Entry>;
 
-    fn next(&mut self) -> Option<io::Result<Record>> {
+    fn next(&mut self) -> Option<io::Result<Entry>> {
         loop {
             let chunk = match self.reader.fill_buf() {
                 Ok([]) => return None,
@@ -83,10 +111,13 @@ impl<R: Read> Iterator for RecordReader<R> {
                 Err(error) if error.kind() == ErrorKind::Interrupted => continue,
                 Err(error) => return Some(Err(error)),
             };
-            let received = self.receiver.receive(chunk);
+            let received = match self.receiver.receive(chunk) {
+                Ok(received) => received,
+                Err(error) => return Some(Err(io::Error::other(error))),
+            };
             self.reader.consume(received.used);
             if let Some(record) = received.record {
-                return Some(Ok(record.to_record()));
+                return Some(Ok(record.to_entry()));
             }
         }
     }

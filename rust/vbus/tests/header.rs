@@ -83,6 +83,7 @@ fn numbers_of_refusals() {
         (9, Error::SectionPastEnd),
         (10, Error::NoSuchPart),
         (11, Error::UnknownSectionType),
+        (12, Error::PositionOverflow),
     ];
     assert_eq!(Error::ALL, errors.map(|(_, error)| error));
     for (number, error) in errors {
@@ -90,7 +91,7 @@ fn numbers_of_refusals() {
         assert_eq!(Error::from_number(number), Some(error));
     }
     assert_eq!(Error::from_number(0), None);
-    assert_eq!(Error::from_number(12), None);
+    assert_eq!(Error::from_number(13), None);
 }
 
 /// The verdicts have these numbers, and there are no others: 5 is no longer given.

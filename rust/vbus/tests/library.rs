@@ -25,11 +25,14 @@ fn listing() {
     let recording = [&P1[..], &D1, &P1[..9], &T2].concat();
     let mut buffer = [0; MAX_PAYLOAD];
     let mut lines = String::new();
+    let mut positions = Vec::new();
     let mut start = 0;
     while let Some(found) = next(&recording, start, &mut buffer).unwrap() {
         lines += &format!("{found}\n");
-        start = found.place + found.length;
+        positions.push(found.position);
+        start = found.end();
     }
+    assert_eq!(positions, [0, 16, 41]);
     // The example of document 01.
     assert_eq!(
         lines,
@@ -37,6 +40,23 @@ fn listing() {
          D 0020 1911 20 0100 000000000000\n\
          T 7731 2010 30 23 38900DB6C62300\n"
     );
+}
+
+/// Counted from the input's start, wherever the search begins.
+#[test]
+fn positions() {
+    let recording = [&[0x00, 0xAA][..], &P1, &T2].concat();
+    let mut buffer = [0; MAX_PAYLOAD];
+    for start in 0..=recording.len() {
+        let found = next(&recording, start, &mut buffer).unwrap();
+        let place = found.map(|found| (found.position, found.end()));
+        let expected = match start {
+            0..=2 => Some((2, 18)),
+            3..=18 => Some((18, 35)),
+            _ => None,
+        };
+        assert_eq!(place, expected, "from {start}");
+    }
 }
 
 #[test]
@@ -49,7 +69,7 @@ fn lines_that_no_stream_has() {
             command,
         };
         let found = Found {
-            place: 0,
+            position: 0,
             length: 0,
             header,
             payload: &[0xAB],
@@ -164,10 +184,10 @@ fn unused_septet_bits() {
     let recording = [packet, datagram].concat();
     let mut buffer = [0; MAX_PAYLOAD];
     let found = next(&recording, 0, &mut buffer).unwrap().unwrap();
-    assert_eq!((found.place, found.length), (0, 16));
+    assert_eq!((found.position, found.length), (0, 16));
     assert_eq!(found.payload, [0x07, 0x04, 0x0F, 0x00]);
     let found = next(&recording, 16, &mut buffer).unwrap().unwrap();
-    assert_eq!((found.place, found.length), (16, 16));
+    assert_eq!((found.position, found.length), (16, 16));
     assert_eq!(found.payload, [0; 6]);
     let mut out = [0; 32];
     assert_eq!(normalize(&recording, &mut out), Ok(32));
@@ -219,7 +239,7 @@ fn checksums_without_unused_septet_bits() {
 #[test]
 fn datagrams() {
     let found = |header, payload| Found {
-        place: 0,
+        position: 0,
         length: 16,
         header,
         payload,
@@ -237,7 +257,7 @@ fn datagrams() {
 #[test]
 fn block_packet() {
     let found = Found {
-        place: 0,
+        position: 0,
         length: 40,
         header: block_header(),
         payload: &BLOCK,

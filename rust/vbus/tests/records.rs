@@ -10,8 +10,8 @@ fn records_and_back() {
     let input = [&P1[..], &P1[..9], &T2].concat();
     let entries: Vec<Entry> = records(&input).collect();
     assert_eq!(entries.len(), 2);
-    assert_eq!((entries[0].place, entries[0].length), (0, 16));
-    assert_eq!((entries[1].place, entries[1].length), (25, 17));
+    assert_eq!((entries[0].position, entries[0].length), (0, 16));
+    assert_eq!((entries[1].position, entries[1].length), (25, 17));
     assert_eq!(
         entries[1].record.payload,
         [0x38, 0x90, 0x0D, 0xB6, 0xC6, 0x23, 0x00]
@@ -22,6 +22,34 @@ fn records_and_back() {
     assert_eq!(out[..17], T2);
     assert_eq!(out[17], 0xEE);
     assert_eq!(entries[0].record.value(), None);
+}
+
+/// `next`, the recording's iterator and a receiver's give the same entries.
+#[test]
+fn entries() {
+    let input = [&[0x00][..], &P1, &P1[..9], &T2].concat();
+    let mut buffer = [0; MAX_PAYLOAD];
+    let first = next(&input, 0, &mut buffer).unwrap().unwrap();
+    let expected = Entry {
+        position: 1,
+        length: 16,
+        record: Record::packet(0x4411, 0x6610, 0x0200, [0x07, 0x04, 0x0F, 0x00]),
+    };
+    assert_eq!(first.to_entry(), expected);
+    assert_eq!(first.to_record(), expected.record);
+    assert_eq!(records(&input).next(), Some(expected));
+    let mut receiver = Receiver::new();
+    assert!(receiver.records(&input).unwrap().eq(records(&input)));
+}
+
+/// Two records are the same wherever they stand, and give the same stream.
+#[test]
+fn the_same_record_twice() {
+    let input = [P1, P1].concat();
+    let entries: Vec<Entry> = records(&input).collect();
+    assert_ne!(entries[0], entries[1]);
+    assert_eq!(entries[0].record, entries[1].record);
+    assert_eq!(normalize_to_vec(&input), input);
 }
 
 #[test]
