@@ -19,7 +19,7 @@ use Rattle.recording.specs.Recording.{Delivery, deliveryAt}
 use Rattle.recording.proofs.Decoding.{beginning-whole, beginning-none}
 use Rattle.recording.proofs.Deliveries.{Whole}
 use Rattle.receiver.specs.Holding.{kept}
-use Rattle.receiver.specs.Receive.{Outcome, heldIn, outcomeIn, refusal, answerOf, completedIn, acceptedOf, receivedOf, outputAfter}
+use Rattle.receiver.specs.Receive.{Outcome, heldIn, outcomeIn, refusal, answerOf, completedIn, acceptedOf, receivedOf}
 use Rattle.receiver.specs.Feeding.{Called}
 use Rattle.receiver.specs.declared.Receiver.{Receiver}
 use Rattle.receiver.specs.declared.Received.{Received}
@@ -46,7 +46,7 @@ module _ (receiver : Receiver) (chunk : List ℕ) (room : ℕ) where
   refusal-none fits within = ap₂ (λ (a b : Bool). choose a 5 (choose b 12 0)) (le-ltb room _ (omega arith)) (le-ltb _ (receiver .position + length chunk) (omega arith))
 
   -- what holds of each of the three holds of the refusal
-  refusal-by : (P : ℕ → Type 0) → (room < 508 → P 5) → (508 ≤ room → 2 ^ 64 ≤ receiver .position + length chunk → P 12)
+  pub refusal-by : (P : ℕ → Type 0) → (room < 508 → P 5) → (508 ≤ room → 2 ^ 64 ≤ receiver .position + length chunk → P 12)
       → (508 ≤ room → receiver .position + length chunk < 2 ^ 64 → P 0) → P (refusal receiver chunk room)
   refusal-by P five twelve none =
       dite (decLt room 508) (λ short. rw (refusal-room short) (five short))
@@ -123,26 +123,18 @@ module _ (receiver : Receiver) (memory chunk out : List ℕ) where
       }
 
   -- what it promises can be kept, whatever it is handed
-  pub called-exists : (memory' : List ℕ) × Called receiver memory chunk out (receivedOf receiver memory chunk (length out)) (outputAfter receiver memory chunk out) memory'
+  pub called-exists : (answer : Received) × (out' : List ℕ) × (memory' : List ℕ) × Called receiver memory chunk out answer out' memory'
   called-exists =
-      let held = outcomeIn receiver memory chunk .held in
-      dite (ℕ-discrete (refusal receiver chunk (length out)) 0)
-      (λ none. (
-        over held memory,
-        record {
-          answers = refl;
-          output = refl;
-          remembers = record { refused = λ more. absurd (omega (arith, none)); held = λ same. take-append-seam held (drop (length held) memory) };
-        },
-      ))
-      (λ some. (
-        memory,
-        record {
-          answers = refl;
-          output = refl;
-          remembers = record { refused = λ more. refl; held = λ none. absurd (some none) };
-        },
-      ))
+      let number = refusal receiver chunk (length out) in
+      let o = outcomeIn receiver memory chunk in
+      dite (ℕ-discrete number 0)
+      (λ none. (_, _, over (o .held) memory, accepted-all _ _ _ none refl refl (take-append-seam (o .held) (drop (length (o .held)) memory))))
+      (λ some. (_, _, _, refused-all number (omega (arith, some)) refl))
+
+-- its answer has the refusal's number
+pub called-number : {receiver : Receiver} {memory chunk out : List ℕ} {answer : Received} {out' memory' : List ℕ}
+    → Called receiver memory chunk out answer out' memory' → answer .number ≡ refusal receiver chunk (length out)
+called-number {receiver} {memory} {chunk} {out} called = ap (λ (r : Received). r .number) (called .answers) ∙ number-is receiver memory chunk (length out)
 
 -- ── a refused call
 
@@ -151,7 +143,7 @@ pub refused-nothing : {receiver : Receiver} {memory chunk out : List ℕ} {answe
     → Called receiver memory chunk out answer out' memory' → answer .number ≢ 0
     → (answer ≡ answerOf (without (answer .number)) 0 receiver) × (out' ≡ out) × (memory' ≡ memory)
 refused-nothing {receiver} {memory} {chunk} {out} called refused =
-    let number = ap (λ (r : Received). r .number) (called .answers) ∙ number-is receiver memory chunk (length out) in
+    let number = called-number called in
     let some : refusal receiver chunk (length out) ≢ 0 = λ none. refused (number ∙ none) in (
       called .answers ∙ answers-refused receiver memory chunk (length out) some ∙ ap (λ (n : ℕ). answerOf (without n) 0 receiver) (sym number),
       called .output ∙ when-refused (refusal receiver chunk (length out)) _ _ some,
@@ -200,7 +192,7 @@ module _ {receiver : Receiver} {memory chunk out : List ℕ} {answer : Received}
   o = outcomeIn receiver memory chunk
 
   unrefused : refusal receiver chunk (length out) ≡ 0
-  unrefused = sym (ap (λ (r : Received). r .number) (called .answers) ∙ number-is receiver memory chunk (length out)) ∙ accept
+  unrefused = sym (called-number called) ∙ accept
 
   pub answer-is : answer ≡ acceptedOf (receiver .position) o
   answer-is = called .answers ∙ answers-accepted receiver memory chunk (length out) unrefused
@@ -272,3 +264,27 @@ module _ {receiver : Receiver} {memory chunk out : List ℕ} {answer : Received}
         payload-sized = refl;
         forgets = ap length (brings .forgets w);
       })
+
+-- ── a call without a record, refused or not
+
+-- every field that speaks of a record is zero
+pub unfound-zero : {receiver : Receiver} {memory chunk out : List ℕ} {answer : Received} {out' memory' : List ℕ}
+    → Called receiver memory chunk out answer out' memory' → answer .found ≡ false
+    → answer
+    ≡ record {
+      number = answer .number;
+      found = false;
+      used = answer .used;
+      position = 0;
+      length = 0;
+      header = record { version = 0; destination = 0; source = 0; command = 0 };
+      «payload_length» = 0;
+      receiver = answer .receiver;
+    }
+unfound-zero {receiver} {memory} {chunk} {out} {answer} called unfound =
+    dite (ℕ-discrete (answer .number) 0)
+    (λ accept.
+    let o = outcomeIn receiver memory chunk in
+    let none = beginning-none (receiver .position + o .used - length (o .stream)) (o .stream) (unfound-faulty called accept unfound) in
+    rw (answer-is called accept, none) refl)
+    (λ refused. rw (called .answers, answers-refused receiver memory chunk (length out) (λ none. refused (called-number called ∙ none))) refl)

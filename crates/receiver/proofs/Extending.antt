@@ -108,7 +108,8 @@ module _ (receiver : Receiver) (memory : List ℕ) where
   pub held-zero : receiver .held ≡ 0 → heldIn receiver memory ≡ []
   held-zero none = held-counted (omega arith) ∙ ap (λ (n : ℕ). kept (take n memory)) none ∙ kept-early [] (omega arith)
 
-  held-by : (P : List ℕ → Type 0) → (receiver .held ≤ receiver .position → P (kept (take (receiver .held) memory))) → P [] → P (heldIn receiver memory)
+  -- what is kept of the bytes in the memory, or nothing
+  pub held-by : (P : List ℕ → Type 0) → (receiver .held ≤ receiver .position → P (kept (take (receiver .held) memory))) → P [] → P (heldIn receiver memory)
   held-by P counted nothing =
       dite (decLt (receiver .position) (receiver .held))
       (λ more. rw (held-uncounted more) nothing)

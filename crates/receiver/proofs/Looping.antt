@@ -103,10 +103,13 @@ module _ {before : ℕ} {h chunk out₀ memory out : List ℕ} {u : Unfinished} 
     one-more : length s ≤ before + (used + 1)
     one-more = omega (arith, at .counted, length-extended (take (u .held) memory) byte, length-take (u .held) memory)
 
+    stands-long : (n : ℕ) → take n after ≡ s → n ≤ 772 → length s ≡ n
+    stands-long n is most = sym (ap length is) ∙ length-take-le n after (omega (arith, size))
+
     -- a stream that is still unfinished
     on-unfinished : Holds after u' → take (u' .held) after ≡ s → FeedAt before h chunk out₀ after out u' (used + 1)
     on-unfinished holding is =
-        let long : length s ≡ u' .held = sym (ap length is) ∙ length-take-le (u' .held) after (omega (arith, size, holding-room after u' holding)) in
+        let long = stands-long (u' .held) is (omega (arith, holding-room after u' holding)) in
         let short : length s < streamLength s = omega (arith, long, holding .short, holding .announced, ap streamLength is) in
         goes-on (λ w. omega (arith, short, whole-clean s w .held)) out refl u' holding
         (kept-short s short (omega (arith, holding .most, ap streamLength is)) ∙ sym is)
@@ -131,7 +134,7 @@ module _ {before : ℕ} {h chunk out₀ memory out : List ℕ} {u : Unfinished} 
 
       -- it stands in the memory, and is no longer than what was used
       full-long : length s ≡ u' .held
-      full-long = sym (ap length (full-took .is)) ∙ length-take-le (u' .held) after (omega (arith, size, full-took .most))
+      full-long = stands-long (u' .held) (full-took .is) (full-took .most)
 
       pub full-within : u' .held ≤ 772
       full-within = full-took .most

@@ -15,7 +15,7 @@ use Rattle.receiver.specs.Receive.{heldIn}
 use Rattle.receiver.specs.Stage.{Holds, Restored, TookByte, unfinished, full}
 use Rattle.receiver.specs.declared.Receiver.{Receiver}
 use Rattle.receiver.specs.declared.buffer.Unfinished.{Unfinished}
-use Rattle.receiver.proofs.Extending.{extended-sync, extended-high, extended-none, extended-low, same-high, kept-short, kept-long, kept-most, held-counted, held-uncounted}
+use Rattle.receiver.proofs.Extending.{extended-sync, extended-high, extended-none, extended-low, same-high, kept-short, kept-long, kept-most, held-counted, held-uncounted, held-by}
 
 pub holding-nothing : (memory : List ℕ) → Holds memory (record { held = 0; least = 6 })
 holding-nothing memory =
@@ -29,40 +29,39 @@ holding-room memory u holding = omega (arith, holding .short, holding .announced
 -- ── what a state holds
 
 module _ (receiver : Receiver) (memory : List ℕ) where
-  abbrev count : ℕ
-  count = receiver .held
+  abbrev held : ℕ
+  held = receiver .held
 
   abbrev bytes : List ℕ
-  bytes = take count memory
+  bytes = take held memory
 
   restored-nothing : heldIn receiver memory ≡ [] → Restored receiver memory (record { held = 0; least = 6 })
   restored-nothing none = record { holding = holding-nothing memory; bytes = sym none; counted = omega arith }
 
-  pub restored-uncounted : receiver .position < count → Restored receiver memory (record { held = 0; least = 6 })
+  pub restored-uncounted : receiver .position < held → Restored receiver memory (record { held = 0; least = 6 })
   restored-uncounted more = restored-nothing (held-uncounted receiver memory more)
 
   -- nothing of those bytes is kept
   restored-unkept : kept bytes ≡ [] → Restored receiver memory (record { held = 0; least = 6 })
-  restored-unkept none =
-      dite (decLt (receiver .position) count) restored-uncounted (λ few. restored-nothing (held-counted receiver memory (omega arith) ∙ none))
+  restored-unkept none = restored-nothing (held-by receiver memory (λ (s : List ℕ). s ≡ []) (λ counted. none) refl)
 
-  pub restored-full : length memory ≡ 772 → 772 ≤ count → Restored receiver memory (record { held = 0; least = 6 })
+  pub restored-full : length memory ≡ 772 → 772 ≤ held → Restored receiver memory (record { held = 0; least = 6 })
   restored-full size full-up =
       restored-unkept
-      (dite (decLt 772 (streamLength bytes)) (kept-most bytes) (λ most. kept-long bytes (omega (arith, ap length (take-all count memory (omega arith))))))
+      (dite (decLt 772 (streamLength bytes)) (kept-most bytes) (λ most. kept-long bytes (omega (arith, ap length (take-all held memory (omega arith))))))
 
-  pub restored-long : count ≤ length memory → streamLength bytes ≤ count → Restored receiver memory (record { held = 0; least = 6 })
-  restored-long within long = restored-unkept (kept-long bytes (omega (arith, length-take-le count memory within)))
+  pub restored-long : held ≤ length memory → streamLength bytes ≤ held → Restored receiver memory (record { held = 0; least = 6 })
+  restored-long within long = restored-unkept (kept-long bytes (omega (arith, length-take-le held memory within)))
 
   pub restored-most : 772 < streamLength bytes → Restored receiver memory (record { held = 0; least = 6 })
   restored-most far = restored-unkept (kept-most bytes far)
 
-  pub restored : count ≤ length memory → count ≤ receiver .position → count < streamLength bytes → streamLength bytes ≤ 772
-      → Restored receiver memory (record { held = count; least = streamLength bytes })
+  pub restored : held ≤ length memory → held ≤ receiver .position → held < streamLength bytes → streamLength bytes ≤ 772
+      → Restored receiver memory (record { held = held; least = streamLength bytes })
   restored within counted short most =
       record {
         holding = record { short = short; announced = omega arith; most = most };
-        bytes = sym (held-counted receiver memory counted ∙ kept-short bytes (omega (arith, length-take-le count memory within)) most);
+        bytes = sym (held-counted receiver memory counted ∙ kept-short bytes (omega (arith, length-take-le held memory within)) most);
         counted = counted;
       }
 

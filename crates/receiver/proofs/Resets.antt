@@ -1,8 +1,8 @@
 -- After a reset only positions and 12 differ from a fresh receiver's (document 02, No. 5).
-use Prim.Native.Nat.{ℕ, _+_, _-_, _^_, _≤_}
+use Prim.Native.Nat.{ℕ, _+_, _-_, _≤_}
 use native.Mathlib.Omega.{arith}
 use native.Mathlib.Nat.{add-zero}
-use native.Mathlib.Decide.{decLt, ℕ-discrete}
+use native.Mathlib.Decide.{ℕ-discrete}
 use mathlib.Core.Path.{_≡_, refl, sym, ap, ap₂, _∙_}
 use mathlib.Core.Logic.{_≢_, dite}
 use mathlib.Core.List.{List, [], _∷_}
@@ -13,12 +13,12 @@ use Rattle.stream.specs.Validation.{validationOf}
 use Rattle.recording.specs.Next.{payloadOf, without}
 use Rattle.recording.proofs.Decoding.{beginning-whole, beginning-none}
 use Rattle.receiver.specs.Holding.{kept}
-use Rattle.receiver.specs.Receive.{Outcome, outcomeOf, heldIn, outcomeIn, answerOf, completedIn, acceptedOf, receivedOf, outputAfter, resetOf}
+use Rattle.receiver.specs.Receive.{Outcome, outcomeOf, heldIn, outcomeIn, answerOf, completedIn, acceptedOf, resetOf}
 use Rattle.receiver.specs.Feeding.{fresh, Called, Arguments, Result, Calls, finished, again, NoneOverflows, movedState, movedAnswer, moved}
 use Rattle.receiver.specs.declared.Receiver.{Receiver}
 use Rattle.receiver.specs.declared.Received.{Received}
 use Rattle.receiver.proofs.Extending.{held-zero}
-use Rattle.receiver.proofs.Answers.{accepted-exactly, refused-exactly, overflow-exactly, called-exists, refused-nothing, within-used, answer-is, output-is, held-after}
+use Rattle.receiver.proofs.Answers.{refusal-room, refusal-none, refusal-by, called-exists, called-number, refused-nothing, within-used, answer-is, output-is, held-after}
 
 -- two receivers that hold the same bytes, one p positions further on than the other
 record Alike (p : ℕ) (receiver : Receiver) (memory : List ℕ) (other : Receiver) (memory₂ : List ℕ) : Type 0 where
@@ -32,24 +32,18 @@ reset-alike receiver memory memory₂ =
       held = held-zero (resetOf receiver) memory refl ∙ sym (held-zero fresh memory₂ refl);
     }
 
--- the same chunk, p positions further on
-moved-accepted : (p before : ℕ) (o : Outcome) → length (o .stream) ≤ before + o .used → acceptedOf (p + before) o ≡ movedAnswer p (acceptedOf before o)
+-- the same chunk, p positions further on: the answers differ in their positions alone, and the same payload is written
+moved-completed : (p before : ℕ) (o : Outcome) → length (o .stream) ≤ before + o .used
+    → (acceptedOf (p + before) o ≡ movedAnswer p (acceptedOf before o)) × (payloadOf (completedIn (p + before) o) ≡ payloadOf (completedIn before o))
 unfolding choose
-moved-accepted p before o within =
+moved-completed p before o within =
     let s = o .stream in
     let q = before + o .used - length s in
     let at : p + before + o .used - length s ≡ p + q = omega arith in
     let end : p + before + o .used ≡ p + (before + o .used) = omega arith in
     dite (ℕ-discrete (validationOf s .verdict) 0)
-    (λ w. rw (beginning-whole (p + before + o .used - length s) s w, beginning-whole q s w, at, end))
-    (λ faulty. rw (beginning-none (p + before + o .used - length s) s faulty, beginning-none q s faulty, end))
-
-payload-moved : (p before : ℕ) (o : Outcome) → payloadOf (completedIn (p + before) o) ≡ payloadOf (completedIn before o)
-payload-moved p before o =
-    let s = o .stream in
-    dite (ℕ-discrete (validationOf s .verdict) 0)
-    (λ w. rw (beginning-whole (p + before + o .used - length s) s w, beginning-whole (before + o .used - length s) s w))
-    (λ faulty. rw (beginning-none (p + before + o .used - length s) s faulty, beginning-none (before + o .used - length s) s faulty))
+    (λ w. rw (beginning-whole (p + before + o .used - length s) s w, beginning-whole q s w, at, end) (refl, refl))
+    (λ faulty. rw (beginning-none (p + before + o .used - length s) s faulty, beginning-none q s faulty, end) (refl, refl))
 
 -- two receivers that are alike answer a call alike: unless the one that is further on refuses it as 12, the answers differ in their positions
 -- alone, the outputs are the same, and the receivers are alike again
@@ -66,12 +60,13 @@ module _ {p : ℕ} {receiver other : Receiver} {memory memory₂ chunk out : Lis
       let is-o : outcomeIn receiver memory chunk ≡ o = ap (λ (x : List ℕ). outcomeOf x chunk) (alike .held) in
       let position : receiver .position ≡ p + before = ap (λ (r : Receiver). r .position) (alike .state) in
       let within : length (o .stream) ≤ before + o .used = omega (arith, within-used other memory₂ chunk) in
+      let (answered, payload) = moved-completed p before o within in
       let same : answer ≡ movedAnswer p answer₂ =
-      answer-is called accept ∙ ap₂ acceptedOf position is-o ∙ moved-accepted p before o within ∙ sym (ap (movedAnswer p) (answer-is called₂ accept₂)) in (
+      answer-is called accept ∙ ap₂ acceptedOf position is-o ∙ answered ∙ sym (ap (movedAnswer p) (answer-is called₂ accept₂)) in (
         same,
         output-is called accept
             ∙ ap₂ (λ (n : ℕ) (x : Outcome). over (payloadOf (completedIn n x)) out) position is-o
-            ∙ ap (λ (l : List ℕ). over l out) (payload-moved p before o)
+            ∙ ap (λ (l : List ℕ). over l out) payload
             ∙ sym (output-is called₂ accept₂),
         record {
           state = ap (λ (r : Received). r .receiver) same;
@@ -90,16 +85,12 @@ module _ {p : ℕ} {receiver other : Receiver} {memory memory₂ chunk out : Lis
 
   alike-answers : answer .number ≢ 12 → AnswersAlike
   alike-answers counted =
-      let number = ap (λ (r : Received). r .number) (called .answers) in
-      let number₂ = ap (λ (r : Received). r .number) (called₂ .answers) in
       let position = ap (λ (r : Receiver). r .position) (alike .state) in
-      dite (decLt (length out) 508)
-      (λ short. alike-refused (number ∙ refused-exactly receiver memory chunk (length out) .1 short) (number₂ ∙ refused-exactly other memory₂ chunk (length out) .1 short))
-      (λ fits. dite (decLt (receiver .position + length chunk) (2 ^ 64))
-      (λ within.
-      alike-accepted (number ∙ accepted-exactly receiver memory chunk (length out) .1 (omega arith, within))
-      (number₂ ∙ accepted-exactly other memory₂ chunk (length out) .1 (omega arith, omega (arith, position))))
-      (λ past. absurd (counted (number ∙ overflow-exactly receiver memory chunk (length out) .1 (omega arith, omega arith)))))
+      refusal-by receiver chunk (length out) (λ (n : ℕ). answer .number ≡ n → AnswersAlike)
+      (λ short five. alike-refused five (called-number called₂ ∙ refusal-room other chunk (length out) short))
+      (λ fits past twelve. absurd (counted twelve))
+      (λ fits within accept. alike-accepted accept (called-number called₂ ∙ refusal-none other chunk (length out) fits (omega (arith, position))))
+      (called-number called)
 
 alike-calls : {p : ℕ} {receiver other : Receiver} {memory memory₂ : List ℕ} {arguments : List Arguments} {results results₂ : List Result}
     → Alike p receiver memory other memory₂ → Calls receiver memory arguments results → Calls other memory₂ arguments results₂ → NoneOverflows results
@@ -114,10 +105,9 @@ alike-calls {p} alike (again chunk out answer out' memory' called calls) (again 
 pub calls-exist : (receiver : Receiver) (memory : List ℕ) (arguments : List Arguments) → (results : List Result) × Calls receiver memory arguments results
 calls-exist receiver memory [] = ([], finished)
 calls-exist receiver memory (a ∷ rest) =
-    let answer = receivedOf receiver memory (a .chunk) (length (a .out)) in
-    let (memory', called) = called-exists receiver memory (a .chunk) (a .out) in
+    let (answer, out', memory', called) = called-exists receiver memory (a .chunk) (a .out) in
     let (results, calls) = calls-exist (answer .receiver) memory' rest in
-    (_, again (a .chunk) (a .out) answer (outputAfter receiver memory (a .chunk) (a .out)) memory' called calls)
+    (_, again (a .chunk) (a .out) answer out' memory' called calls)
 
 -- after a reset the same calls, as long as none is refused as 12, bring what they bring of a fresh receiver, whatever the memories hold, but
 -- that all positions are further on by the count

@@ -16,14 +16,14 @@ use Rattle.recording.specs.Next.{payloadOf}
 use Rattle.recording.specs.Recording.{Delivery, deliveriesFrom}
 use Rattle.recording.proofs.Decoding.{beginning-whole, beginning-none}
 use Rattle.receiver.specs.Holding.{kept}
-use Rattle.receiver.specs.Receive.{Outcome, outcomeOf, heldIn, outcomeIn, completedIn, acceptedOf, receivedOf, outputAfter, resetOf}
+use Rattle.receiver.specs.Receive.{Outcome, outcomeOf, heldIn, outcomeIn, completedIn, acceptedOf, resetOf}
 use Rattle.receiver.specs.Feeding.{fresh, Called, deliveredIn, Run, ended, call}
 use Rattle.receiver.specs.declared.Receiver.{Receiver}
 use Rattle.receiver.specs.declared.Received.{Received}
 use Rattle.receiver.proofs.Extending.{held-zero}
 use Rattle.receiver.proofs.Steps.{Held, none, held-kept, held-nothing}
 use Rattle.receiver.proofs.Outcomes.{follows}
-use Rattle.receiver.proofs.Answers.{called-exists, accepted-exactly, refused-nothing, received-used, answer-is, output-is, held-after}
+use Rattle.receiver.proofs.Answers.{refusal-none, called-exists, called-number, refused-nothing, received-used, answer-is, output-is, held-after}
 
 -- ── what one call delivers
 
@@ -120,13 +120,12 @@ module _ (cut : Cut) (out : List ℕ) (room : 508 ≤ length out) where
   one-call : (chunk later : List ℕ) → 0 < length chunk → ((n : ℕ) → 0 < n → Fed (drop n chunk ++ later)) → Fed (chunk ++ later)
   one-call chunk later some rest receiver memory within =
       let all : receiver .position + length chunk + length later < 2 ^ 64 = omega (arith, length-append chunk later) in
-      let answer = receivedOf receiver memory chunk (length out) in
-      let (memory', called) = called-exists receiver memory chunk out in
-      let used = received-used called (accepted-exactly receiver memory chunk (length out) .1 (room, omega arith)) in
+      let (answer, out', memory', called) = called-exists receiver memory chunk out in
+      let used = received-used called (called-number called ∙ refusal-none receiver chunk (length out) room (omega arith)) in
       let left : answer .receiver .position + length (drop (answer .used) chunk ++ later) < 2 ^ 64 =
       omega (arith, used .counts, used .within, length-append (drop (answer .used) chunk) later, length-drop (answer .used) chunk) in
       let (ds, run) = rest (answer .used) (used .some some) (answer .receiver) memory' left in
-      (_, call chunk later out answer (outputAfter receiver memory chunk out) memory' refl called run)
+      (_, call chunk later out answer out' memory' refl called run)
 
   fed : (fuel : ℕ) (bytes : List ℕ) → length bytes ≤ fuel → Fed bytes
   fed zero bytes enough = none-left bytes (omega arith)

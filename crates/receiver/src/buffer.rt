@@ -61,18 +61,18 @@ fn add(memory: &mut [u8], state: Unfinished, byte: u8) -> Unfinished
     requires { ⌜ (length (now memory) ≡ 772) × (Holds (now memory) state × ((0 < state .held) × (byte < 0x80))) ⌝ }
     ensures { λ r. ⌜ TookByte (take (state .held) (now (memory .entry))) byte (now (memory .exit)) r ⌝ }
 {
-    let held = state.held;
-    memory[held] = byte;
-    let count = held + 1;
-    if count < state.least {
+    let before = state.held;
+    memory[before] = byte;
+    let held = before + 1;
+    if held < state.least {
         return Unfinished {
-            held: count,
+            held,
             least: state.least,
         };
     }
     Unfinished {
-        held: count,
-        least: announced(&memory[0..count]),
+        held,
+        least: announced(&memory[0..held]),
     }
 }
 

@@ -89,12 +89,12 @@ fn feed(receiver: Receiver, memory: &mut [u8], chunk: &[u8], out: &mut [u8]) -> 
     while used < chunk.len() {
         state = buffer::take_byte(memory, state, chunk[used]);
         used += 1;
-        let count = state.held;
-        if count == state.least {
-            let found = recording::decode(&memory[0..count], out);
+        let held = state.held;
+        if held == state.least {
+            let found = recording::decode(&memory[0..held], out);
             if found.found {
                 let end = receiver.position + used as u64;
-                return delivered(found, end - count as u64, used, end);
+                return delivered(found, end - held as u64, used, end);
             }
             state = buffer::nothing();
         }

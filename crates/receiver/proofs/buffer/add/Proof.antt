@@ -10,8 +10,8 @@ use Rattle.receiver.proofs.buffer.add.Tie as tie
 slice-write-memory : tie.Need-slice-write-memory
 slice-write-memory c = search needs
 
-add-count : tie.Need-add-count
-add-count c = search needs
+add-held : tie.Need-add-held
+add-held c = search needs
 
 same-length : tie.Need-same-length
 same-length c = search needs
@@ -49,7 +49,7 @@ add-spec =
     tie.close
     (tie.spec
     slice-write-memory
-    add-count
+    add-held
     same-length
     returns
     sub-announced
