@@ -117,7 +117,7 @@ typedef struct {
     uint32_t number;
     bool found;
     size_t used; /* bytes of the chunk that were used */
-    uint64_t position; /* of the stream's 0xAA, counted from the first byte that the fresh receiver got */
+    uint64_t position; /* of the stream's 0xAA among all bytes used, counted as the receiver's position is */
     size_t length; /* bytes of the stream */
     vbus_header header;
     size_t payload_length; /* bytes written to the payload buffer */

@@ -1,6 +1,8 @@
 //! The archive's exports on slices. The functions only split these into pointer and count, and are
 //! inlined.
 
+use std::hint::black_box;
+
 #[inline(always)]
 pub fn checksum(block: &[u8]) -> u8 {
     // SAFETY: pointer and count are those of a slice.
@@ -78,4 +80,14 @@ pub fn receive(
     };
     *state = answer.receiver;
     answer
+}
+
+/// The same where the receiver lies in memory, as in a struct that is lent from call to call.
+#[inline(always)]
+pub fn receive_in_memory(
+    receiver: &mut Receiver<'_>,
+    chunk: &[u8],
+    payload: &mut [u8],
+) -> vbus_sys::Received {
+    receive(black_box(receiver), chunk, payload)
 }

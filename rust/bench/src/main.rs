@@ -353,26 +353,37 @@ fn unused_bits(size: &str, with: &[u8], without: &[u8]) {
 
 fn receiver(kind: &str, input: &[u8]) {
     for size in [1, 16, 256, 65_536] {
-        let mut payload_a = [0u8; 508];
-        let mut payload_b = [0u8; 508];
-        let mut memory = [0u8; 772];
         let name = format!("receive, {kind}, chunks of {size}");
-        compare(
-            &name,
-            input.len(),
-            || {
-                let chunks = input.chunks(size);
-                let fresh = lib::Receiver::new(&mut memory);
-                receive_all!(lib::receive, fresh, chunks, &mut payload_a)
-            },
-            || {
-                let chunks = input.chunks(size);
-                let fresh = reference::Receiver::new();
-                receive_all!(ref_receive, fresh, chunks, &mut payload_b)
-            },
-        );
-        assert!(payload_a == payload_b, "{name}: the last payload differs");
+        receive(&name, input, size, lib::receive);
     }
+    let name = format!("receive, {kind}, chunks of 1, the receiver in memory");
+    receive(&name, input, 1, lib::receive_in_memory);
+}
+
+fn receive(
+    name: &str,
+    input: &[u8],
+    size: usize,
+    library: impl Fn(&mut lib::Receiver, &[u8], &mut [u8]) -> vbus_sys::Received,
+) {
+    let mut payload_a = [0u8; 508];
+    let mut payload_b = [0u8; 508];
+    let mut memory = [0u8; 772];
+    compare(
+        name,
+        input.len(),
+        || {
+            let chunks = input.chunks(size);
+            let fresh = lib::Receiver::new(&mut memory);
+            receive_all!(library, fresh, chunks, &mut payload_a)
+        },
+        || {
+            let chunks = input.chunks(size);
+            let fresh = reference::Receiver::new();
+            receive_all!(ref_receive, fresh, chunks, &mut payload_b)
+        },
+    );
+    assert!(payload_a == payload_b, "{name}: the last payload differs");
 }
 
 fn encode(name: &str, version: u8, command: u16, length: usize, random: &mut Random) {

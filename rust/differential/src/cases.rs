@@ -812,19 +812,21 @@ impl Checker {
         self.note(|| "a record around 4 GiB".to_string());
         let stream = recordings::stream(&mut self.rng);
         let mut input = vec![0; (1 << 32) + 2 * MAX_STREAM];
-        for place in [(1 << 32) - 1, 1 << 32, (1 << 32) + 300] {
-            let end = place + stream.len();
-            input[place..end].copy_from_slice(&stream);
+        for position in [(1 << 32) - 1, 1 << 32, (1 << 32) + 300] {
+            let end = position + stream.len();
+            input[position..end].copy_from_slice(&stream);
             let mut buffer = [0; MAX_PAYLOAD];
-            let found = library::next(&input, place - 3, &mut buffer);
-            let same = found == reference::next(&input, place - 3, &mut buffer)
-                && found.position == place as u64
-                && vbus::next(&input, place - 3, &mut buffer).is_ok_and(|found| {
-                    found.is_some_and(|found| (found.position, found.end()) == (place as u64, end))
+            let found = library::next(&input, position - 3, &mut buffer);
+            let same = found == reference::next(&input, position - 3, &mut buffer)
+                && found.position == position as u64
+                && vbus::next(&input, position - 3, &mut buffer).is_ok_and(|found| {
+                    found.is_some_and(|found| {
+                        (found.position, found.end()) == (position as u64, end)
+                    })
                 });
-            self.holds(same, || format!("a record at {place}: {found:X?}"))?;
+            self.holds(same, || format!("a record at {position}: {found:X?}"))?;
             self.count("long input");
-            input[place..end].fill(0);
+            input[position..end].fill(0);
         }
         Ok(())
     }

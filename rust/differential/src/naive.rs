@@ -27,10 +27,10 @@ pub struct Delivered {
     pub payload: Vec<u8>,
 }
 
-/// The records at all places from which the input begins with a whole stream.
+/// The records at all positions from which the input begins with a whole stream.
 pub fn records(input: &[u8]) -> Vec<Delivered> {
     (0..input.len())
-        .filter_map(|place| Some(read(place as u64, whole_stream(&input[place..])?)))
+        .filter_map(|position| Some(read(position as u64, whole_stream(&input[position..])?)))
         .collect()
 }
 
@@ -65,8 +65,8 @@ pub fn unused_septets(stream: &[u8]) -> usize {
 impl Delivered {
     /// The record's stream in a recording that begins at that position.
     pub fn stream<'i>(&self, input: &'i [u8], from: u64) -> &'i [u8] {
-        let place = (self.position - from) as usize;
-        &input[place..place + self.length]
+        let begin = (self.position - from) as usize;
+        &input[begin..begin + self.length]
     }
 }
 
@@ -116,11 +116,7 @@ pub fn receive(
 ) -> (Received, Receiver) {
     let number = refusal(receiver, chunk, payload);
     if number != 0 {
-        let refused = Received {
-            number,
-            ..Received::default()
-        };
-        return (refused, receiver);
+        return (without(number, 0), receiver);
     }
     let mut stream = held_in(receiver, memory);
     // No sum is too large: a chunk that would be is refused.
@@ -142,11 +138,16 @@ pub fn receive(
     }
     memory[..stream.len()].copy_from_slice(&stream);
     let held = stream.len();
-    let received = Received {
-        used: chunk.len(),
+    (without(0, chunk.len()), Receiver { held, position })
+}
+
+/// An answer without a record.
+fn without(number: u32, used: usize) -> Received {
+    Received {
+        number,
+        used,
         ..Received::default()
-    };
-    (received, Receiver { held, position })
+    }
 }
 
 /// Too little room; then too many bytes to be counted, in numbers that hold any sum.

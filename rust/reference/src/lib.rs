@@ -398,18 +398,18 @@ pub fn next(input: &[u8], start: usize, payload: &mut [u8]) -> Found {
     if start > input.len() {
         return refused(BAD_START);
     }
-    let Some((place, stream)) = find(input, start) else {
+    let Some((position, stream)) = find(input, start) else {
         return Found::default();
     };
     let Some(room) = payload.get_mut(..stream.payload_length) else {
         return refused(NO_ROOM);
     };
-    let bytes = &input[place..place + stream.length];
+    let bytes = &input[position..position + stream.length];
     decode_payload(bytes, stream.kind, room);
     Found {
         number: 0,
         found: true,
-        position: place as u64,
+        position: position as u64,
         length: stream.length,
         header: header_of(bytes, stream.kind),
         payload_length: stream.payload_length,
@@ -520,9 +520,9 @@ pub fn normalize(input: &[u8], out: &mut [u8]) -> Written {
 fn streams(input: &[u8]) -> impl Iterator<Item = (&[u8], Stream)> {
     let mut start = 0;
     std::iter::from_fn(move || {
-        let (place, stream) = find(input, start)?;
-        start = place + stream.length;
-        Some((&input[place..start], stream))
+        let (position, stream) = find(input, start)?;
+        start = position + stream.length;
+        Some((&input[position..start], stream))
     })
 }
 

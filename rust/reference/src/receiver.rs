@@ -88,9 +88,9 @@ impl Receiver {
         if let Some(stream) = stream {
             return delivered(&self.stream[..stream.length], stream, used, payload);
         }
-        if let Some((place, stream)) = self.search(chunk, used) {
-            let end = place + stream.length;
-            return delivered(&chunk[place..end], stream, end, payload);
+        if let Some((begin, stream)) = self.search(chunk, used) {
+            let end = begin + stream.length;
+            return delivered(&chunk[begin..end], stream, end, payload);
         }
         Received {
             used: chunk.len(),

@@ -9,7 +9,8 @@ use crate::{parameter, value, Error, Header};
 use crate::{Entry, Record};
 
 /// A record, its payload in a buffer: that of the call of [`next`](crate::next) that found it, or the
-/// [`Receiver`](crate::Receiver)'s.
+/// [`Receiver`](crate::Receiver)'s. Two records are the same, wherever they stand, if their headers
+/// and payloads are equal; `==` compares their positions too.
 ///
 /// ```
 /// let recording = [0x00, 0xAA, 0xAA, 0x10, 0x20, 0x31, 0x77, 0x30, 0x01, 0x76];
@@ -35,7 +36,7 @@ pub struct Found<'b> {
 
 impl<'b> Found<'b> {
     /// The place behind the record's stream in the input of [`next`](crate::next): where to look for
-    /// the next record.
+    /// the next record. Of a receiver's record it is no place in any input.
     ///
     /// ```
     /// let telegram = [0xAA, 0x10, 0x20, 0x31, 0x77, 0x30, 0x01, 0x76];

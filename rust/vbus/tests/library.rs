@@ -49,13 +49,13 @@ fn positions() {
     let mut buffer = [0; MAX_PAYLOAD];
     for start in 0..=recording.len() {
         let found = next(&recording, start, &mut buffer).unwrap();
-        let place = found.map(|found| (found.position, found.end()));
+        let stands = found.map(|found| (found.position, found.end()));
         let expected = match start {
             0..=2 => Some((2, 18)),
             3..=18 => Some((18, 35)),
             _ => None,
         };
-        assert_eq!(place, expected, "from {start}");
+        assert_eq!(stands, expected, "from {start}");
     }
 }
 
