@@ -1,24 +1,27 @@
 -- Laws of the answers about elements.
-use Prim.Native.Nat.{ℕ, suc, _+_, _-_, _*_, _/_, _<_, _≤_}
+use Prim.Native.Nat.{ℕ, suc, _+_, _-_, _*_, _/_, _%_, _<_, _≤_}
 use native.Mathlib.Omega.{arith}
+use native.Mathlib.Decide.{ℕ-discrete}
 use native.Mathlib.Nat.{suc-mul, le-div-iff-mul-le, pos-of-ne-zero}
 use mathlib.Core.Path.{_≡_, sym, ap, _∙_}
-use mathlib.Core.Logic.{_≢_}
-use mathlib.Core.List.{List}
+use mathlib.Core.Logic.{_≢_, _↔_, dite}
+use mathlib.Core.Bool.{Bool}
+use mathlib.Core.List.{List, [], _∷_}
 use lib.Dec.{eqb, leb}
 use lib.ListN.{length, getD, take, drop, length-drop, take-append-drop}
 use lib.Seq.{length-take-le, drop-drop, take-append-le, drop-append-le}
-use borrow.Author.Tests.{eq-eqb, ne-eqb, eqb-false, le-leb, lt-leb, leb-false}
+use borrow.Author.Tests.{eq-eqb, ne-eqb, eqb-true, eqb-false, not-false, le-leb, lt-leb, leb-false}
 use Rattle.basics.proofs.Over.{part}
-use Rattle.basics.proofs.Table.{Numbered, when-none, last-unasked, last-passed, last-taken, last-free}
+use Rattle.basics.proofs.Table.{Numbered, first-kept, first-next, first-none, when-none, last-unasked, last-passed, last-taken, last-free}
 use Rattle.record.specs.declared.Header.{Header}
-use Rattle.sections.specs.Section.{framesIn, sectionAt, startOf}
-use Rattle.sections.specs.Element.{sizeIn, elementsIn, offsetIn, elementAt}
+use Rattle.sections.specs.Section.{framesIn, typeOf, sectionAt, startOf}
+use Rattle.sections.specs.Element.{elementSize, sizeIn, elementsIn, partialElement, offsetIn, elementAt}
 use Rattle.sections.specs.Answer.{sectionLines, typeLines, elementLines, sectionFound, elementCount, elementFound}
 use Rattle.sections.specs.declared.Count.{Count}
 use Rattle.sections.specs.declared.Part.{Part}
-use Rattle.sections.proofs.Tables.{counted-none, counted-refused, counted-given, located-refused, located-given}
-use Rattle.sections.proofs.Finding.{section-numbered, section-standing}
+use Rattle.sections.proofs.Tables.{TwoLines, two-lines, counted-none, counted-refused, counted-given, located-refused, located-given}
+use Rattle.sections.proofs.Finding.{section-numbered, section-most, section-standing}
+use Rattle.sections.proofs.Partial.{display-size, partial-exactly, partial-remainder}
 
 scaled : (i a b : ℕ) → 0 < b → i < a / b → i * b + b ≤ a
 scaled i a b pos h = rw suc-mul at (le-div-iff-mul-le {k = b} {x = suc i} {y = a} pos .0 h)
@@ -38,6 +41,62 @@ pub record Seen (p : List ℕ) (k start : ℕ) : Type 0 where
   pub byte : (i : ℕ) → i < 4 → getD (take (length p - start) (drop start p)) i 0 ≡ getD (sectionAt p k) i 0
 
 module _ (h : Header) (p : List ℕ) (k : ℕ) where
+  abbrev type : ℕ
+  type = typeOf (sectionAt p k)
+
+  abbrev frames : ℕ
+  frames = framesIn (sectionAt p k)
+
+  -- ── which refusal is given when
+
+  -- where the section is found, 11 is given exactly if its type isn't in the table, and 13 exactly if its type is 0x0A and its number of frames odd;
+  -- its elements are counted exactly if their size divides its bytes
+  pub record ElementRefusal : Type 0 where
+    pub kept : sectionFound h p k .number ≢ 0 → elementCount h p k .number ≡ sectionFound h p k .number
+    pub eleven : (elementCount h p k .number ≡ 11) ↔ ((sectionFound h p k .number ≡ 0) × (elementSize type ≡ 0))
+    pub thirteen : (elementCount h p k .number ≡ 13) ↔ ((sectionFound h p k .number ≡ 0) × (type ≡ 0x0A) × (frames % 2 ≡ 1))
+    pub none : (elementCount h p k .number ≡ 0) ↔ ((sectionFound h p k .number ≡ 0) × (0 < elementSize type) × (4 * frames % elementSize type ≡ 0))
+
+  -- the lines behind those of the section
+  abbrev lines : List (Bool × ℕ)
+  lines = (eqb (elementSize type) 0, 11) ∷ (partialElement (sectionAt p k), 13) ∷ []
+
+  kept : sectionFound h p k .number ≢ 0 → elementCount h p k .number ≡ sectionFound h p k .number
+  kept = first-kept (sectionLines h p k) lines
+
+  -- a number that no line of the section has is given where the section is found
+  found : elementCount h p k .number ≢ sectionFound h p k .number → sectionFound h p k .number ≡ 0
+  found other = dite (ℕ-discrete (sectionFound h p k .number) 0) (λ e. e) (λ r. absurd (other (kept r)))
+
+  decided : sectionFound h p k .number ≡ 0 → TwoLines 11 13 (elementCount h p k .number) (eqb (elementSize type) 0) (partialElement (sectionAt p k))
+  decided e = rw (first-next (sectionLines h p k) lines (section-numbered h p k) e) (two-lines 11 13 (omega arith) (omega arith) _ _)
+
+  pub elements-exist : ElementRefusal
+  elements-exist =
+      let most = section-most h p k in
+      record {
+        kept = kept;
+        eleven = (
+          λ e. let here = found (λ same. omega arith) in (here, eqb-true _ 0 (decided here .first-line .0 e)),
+          λ x. decided (x .0) .first-line .1 (eq-eqb _ 0 (x .1)),
+        );
+        thirteen = (
+          λ e.
+              let here = found (λ same. omega arith) in
+              let odd = partial-exactly (sectionAt p k) .0 (decided here .second-line .0 e .1) in
+              (here, odd .0, odd .1),
+          λ x. decided (x .0) .second-line .1 (ne-eqb (elementSize type) 0 (λ z. omega (arith, ap elementSize (x .1), display-size)), partial-exactly (sectionAt p k) .1 (x .1, x .2)),
+        );
+        none = (
+          λ e.
+              let here = first-none (sectionLines h p k) lines (section-numbered h p k) e .0 in
+              let tests = decided here .none .0 e in
+              let sized = pos-of-ne-zero (eqb-false _ 0 (tests .0)) in
+              (here, sized, eqb-true _ 0 (not-false _ (sym (partial-remainder (sectionAt p k) sized) ∙ tests .1))),
+          λ x. decided (x .0) .none .1 (ne-eqb (elementSize type) 0 (λ z. omega arith), partial-remainder (sectionAt p k) (x .1) ∙ rw (eq-eqb _ 0 (x .2))),
+        );
+      }
+
   -- ── a count of elements, after what `find_section` answers
 
   module _ (l : Part) (is : l ≡ sectionFound h p k) where
@@ -45,14 +104,16 @@ module _ (h : Header) (p : List ℕ) (k : ℕ) where
     number-is = ap (λ (x : Part). x .number) is
 
     pub count-refused : l .number ≢ 0 → record { number = l .number; count = 0 } ≡ elementCount h p k
-    count-refused r = counted-refused (typeLines h p k) (l .number) (last-unasked (sectionLines h p k) (eqb (sizeIn (sectionAt p k)) 0) 11 (l .number) number-is r) r _
+    count-refused r = counted-refused (typeLines h p k) (l .number) (kept (λ e. r (number-is ∙ e)) ∙ sym number-is) r _
 
     module _ (none : l .number ≡ 0) where
+      here : sectionFound h p k .number ≡ 0
+      here = sym number-is ∙ none
+
       pub seen : Seen p k (l .start)
       seen =
-          let found = sym number-is ∙ none in
-          let s = section-standing h p k found in
-          let start : l .start ≡ startOf p k = ap (λ (x : Part). x .start) is ∙ when-none _ (startOf p k) 0 found in
+          let s = section-standing h p k here in
+          let start : l .start ≡ startOf p k = ap (λ (x : Part). x .start) is ∙ when-none _ (startOf p k) 0 here in
           record {
             is = start;
             room = omega (arith, s .within, s .whole);
@@ -62,24 +123,21 @@ module _ (h : Header) (p : List ℕ) (k : ℕ) where
 
       module _ (size : ℕ) (sized : size ≡ sizeIn (sectionAt p k)) where
         pub count-untyped : size ≡ 0 → record { number = 11; count = 0 } ≡ elementCount h p k
-        count-untyped z =
-            counted-refused (typeLines h p k) 11
-            (last-taken (sectionLines h p k) (eqb (sizeIn (sectionAt p k)) 0) 11 (section-numbered h p k) (sym number-is ∙ none) (eq-eqb _ 0 (sym sized ∙ z))) (λ e. omega arith) _
+        count-untyped z = counted-refused (typeLines h p k) 11 (elements-exist .eleven .1 (here, sym sized ∙ z)) (λ e. omega arith) _
 
-        pub count-typed : size ≢ 0 → record { number = 0; count = 4 * framesIn (sectionAt p k) / size } ≡ elementCount h p k
-        count-typed z =
-            rw sized
-            (counted-given (typeLines h p k) (last-free (sectionLines h p k) (eqb (sizeIn (sectionAt p k)) 0) 11 (section-numbered h p k) (sym number-is ∙ none) (ne-eqb _ 0 (λ e. z (sized ∙ e)))) _)
+        pub count-partial : size ≢ 0 → 4 * frames % size ≢ 0 → record { number = 13; count = 0 } ≡ elementCount h p k
+        count-partial typed left =
+            let odd = partial-exactly (sectionAt p k) .0 (partial-remainder (sectionAt p k) (omega arith) ∙ rw (sym sized, ne-eqb _ 0 left)) in
+            counted-refused (typeLines h p k) 13 (elements-exist .thirteen .1 (here, odd .0, odd .1)) (λ e. omega arith) _
+
+        pub count-whole : size ≢ 0 → 4 * frames % size ≡ 0 → record { number = 0; count = 4 * frames / size } ≡ elementCount h p k
+        count-whole typed =
+            rw sized (λ fills. counted-given (typeLines h p k) (elements-exist .none .1 (here, omega arith, fills)) _)
 
   -- ── an element
 
   pub type-numbered : Numbered (typeLines h p k)
-  type-numbered = (omega arith, (omega arith, (omega arith, (omega arith, tt))))
-
-  pub typed : elementCount h p k .number ≡ 0 → (sectionFound h p k .number ≡ 0) × (0 < sizeIn (sectionAt p k))
-  typed e =
-      let both = last-passed (sectionLines h p k) (eqb (sizeIn (sectionAt p k)) 0) 11 (section-numbered h p k) (omega arith) e in
-      (both .0, pos-of-ne-zero (eqb-false _ 0 (both .1)))
+  type-numbered = (omega arith, (omega arith, (omega arith, (omega arith, (omega arith, tt)))))
 
   -- element i lies in section k
   pub record Inside (i : ℕ) : Type 0 where
@@ -92,15 +150,15 @@ module _ (h : Header) (p : List ℕ) (k : ℕ) where
 
   inside : (i : ℕ) → elementCount h p k .number ≡ 0 → i < elementsIn (sectionAt p k) → Inside i
   inside i e b =
-      let type = typed e in
-      let s = section-standing h p k (type .0) in
+      let fills = elements-exist .none .0 e in
+      let s = section-standing h p k (fills .0) in
       let size : ℕ = sizeIn (sectionAt p k) in
       let offset : ℕ = offsetIn (sectionAt p k) i in
-      let frames : i * size + size ≤ 4 * framesIn (sectionAt p k) = scaled i _ _ (type .1) b in
+      let frames : i * size + size ≤ 4 * framesIn (sectionAt p k) = scaled i _ _ (fills .1) b in
       let fits : offset + size ≤ length (sectionAt p k) = omega (arith, s .whole) in
       record {
-        found = type .0;
-        sized = type .1;
+        found = fills .0;
+        sized = fills .1;
         long = length-take-le size (drop offset (sectionAt p k)) (omega (arith, length-drop offset (sectionAt p k)));
         fits = fits;
         within = omega (arith, s .within);

@@ -10,7 +10,7 @@ use lib.Dec.{eqb, leb, ltb}
 use lib.ListN.{length}
 use borrow.Author.Tests.{eq-eqb, eqb-true, not-false, le-leb, lt-leb, leb-false, le-ltb, ltb-false}
 use Rattle.basics.specs.Choice.{choose}
-use Rattle.basics.proofs.Choice.{neither}
+use Rattle.basics.proofs.Choice.{choose-by, neither}
 use Rattle.basics.proofs.Table.{Numbered, line-passed, last-unasked, last-passed, last-taken, last-free}
 use Rattle.record.specs.declared.Header.{Header}
 use Rattle.sections.specs.Section.{sectionLength, sectionsOf, overrun}
@@ -71,6 +71,15 @@ module _ (h : Header) (p : List ℕ) where
 
   pub section-numbered : (k : ℕ) → Numbered (sectionLines h p k)
   section-numbered k = (omega arith, (omega arith, (omega arith, tt)))
+
+  pub section-most : (k : ℕ) → sectionFound h p k .number ≤ 10
+  section-most k =
+      line (notBlock h (length p)) (λ e. omega arith) (λ e.
+      line (overrun p) (λ e. omega arith) (λ e.
+      line (leb (length (sectionsOf p)) k) (λ e. omega arith) (λ e. omega arith)))
+    where
+      line : (test : Bool) {x y : ℕ} → (test ≡ true → x ≤ 10) → (test ≡ false → y ≤ 10) → choose test x y ≤ 10
+      line = choose-by (λ (n : ℕ). n ≤ 10)
 
   -- section k is there, and the chain of sections is whole
   pub record Present (k : ℕ) : Type 0 where

@@ -2,18 +2,16 @@
 -- Sections.antt has `sections-joined`, that the sections are the payload; Samples.antt the table of types, at every type.
 use Prim.Native.Nat.{ℕ, suc, _+_, _*_, _<_, _≤_}
 use native.Mathlib.Omega.{arith}
-use native.Mathlib.Nat.{pos-of-ne-zero, div-mul-le-self, lt-div-mul-add}
+use native.Mathlib.Nat.{div-add-mod'}
 use mathlib.Core.Path.{_≡_, refl, sym, ap, _∙_}
 use mathlib.Core.Logic.{_≢_, _↔_}
 use mathlib.Core.Bool.{Bool, true, false, true≢false}
 use mathlib.Core.List.{List, [], flatten}
-use lib.Dec.{eqb}
 use lib.ListN.{length, getD, take, drop}
 use lib.Seq.{take-all}
 use denote.Ref.{RefT, now}
-use borrow.Author.Tests.{eq-eqb, ne-eqb, eqb-true, eqb-false}
 use Rattle.basics.specs.Choice.{choose}
-use Rattle.basics.proofs.Table.{when-none, when-refused, AskedLast, asked-last}
+use Rattle.basics.proofs.Table.{when-none, when-refused, AskedLast}
 use Rattle.record.specs.declared.Header.{Header}
 use Rattle.sections.specs.Section.{sectionsOf, overrun, sectionAt, startOf}
 use Rattle.sections.specs.Element.{elementSize, sizeIn, elementsIn, offsetIn, elementAt}
@@ -22,8 +20,8 @@ use Rattle.sections.specs.Part.{Shows}
 use Rattle.sections.specs.declared.Shown.{Shown}
 use Rattle.sections.proofs.Tables.{asked-below, located-within, shown-at, shown-none}
 use Rattle.sections.proofs.Sections.{Whole, overrun-exactly, start-next, sections-joined}
-use Rattle.sections.proofs.Finding.{BlockPacket, block-exactly, block-numbered, section-numbered, found-present, section-standing}
-use Rattle.sections.proofs.Elements.{type-numbered, typed, element-inside}
+use Rattle.sections.proofs.Finding.{BlockPacket, block-exactly, block-numbered, found-present, section-standing}
+use Rattle.sections.proofs.Elements.{elements-exist, type-numbered, element-inside}
 
 -- 0, 8 or 9, by what holds where 8 isn't given, and what holds where 9 isn't
 pub record Refusal (number : ℕ) (block whole : Type 0) : Type 0 where
@@ -51,13 +49,6 @@ module _ (h : Header) (p : List ℕ) where
     -- a section is found exactly if its number is below the count; else 10
     pub section-exists : AskedLast (sectionCount h p .number) (sectionFound h p k .number) 10 (sectionCount h p .count ≤ k) (k < sectionCount h p .count)
     section-exists = asked-below 10 (omega arith) (blockLines h p) (block-numbered h p) (length (sectionsOf p)) k
-
-    -- its elements are counted exactly if its type is in the table; else 11
-    pub type-exists : AskedLast (sectionFound h p k .number) (elementCount h p k .number) 11 (elementSize (getD (sectionAt p k) 1 0) ≡ 0) (0 < elementSize (getD (sectionAt p k) 1 0))
-    type-exists =
-        let size = elementSize (getD (sectionAt p k) 1 0) in
-        asked-last 11 (omega arith) (sectionLines h p k) (section-numbered h p k) (eqb size 0)
-        (λ none. ((eqb-true size 0, eq-eqb size 0), (λ e. pos-of-ne-zero (eqb-false size 0 e), λ e. ne-eqb size 0 (λ z. omega arith))))
 
     -- an element is found exactly if its number is below the count; else 10
     pub element-exists : (i : ℕ) → AskedLast (elementCount h p k .number) (elementFound h p k i .number) 10 (elementCount h p k .count ≤ i) (i < elementCount h p k .count)
@@ -115,17 +106,13 @@ module _ (h : Header) (p : List ℕ) where
 
     -- ── where elements lie
 
-    -- behind the header there is room for as many elements as are counted, and not for one more
-    pub elements-fill : elementCount h p k .number ≡ 0 → (size : ℕ) → size ≡ elementSize (getD (sectionAt p k) 1 0)
-        → (4 + elementCount h p k .count * size ≤ sectionFound h p k .length) × (sectionFound h p k .length < 4 + elementCount h p k .count * size + size)
-    elements-fill none size is =
-        let type = typed h p k none in
-        let whole = section-length k (type .0) ∙ section-standing h p k (type .0) .whole in
+    -- behind the header the elements that are counted fill their section: no byte of it is left over
+    pub elements-fill : elementCount h p k .number ≡ 0 → 4 + elementCount h p k .count * elementSize (getD (sectionAt p k) 1 0) ≡ sectionFound h p k .length
+    elements-fill none =
+        let fills = elements-exist h p k .none .0 none in
+        let whole = section-length k (fills .0) ∙ section-standing h p k (fills .0) .whole in
         let count = when-none (elementCount h p k .number) (elementsIn (sectionAt p k)) 0 none in
-        rw (whole, count, is) (
-          omega (arith, div-mul-le-self (4 * getD (sectionAt p k) 0 0) (sizeIn (sectionAt p k))),
-          omega (arith, lt-div-mul-add {a = 4 * getD (sectionAt p k) 0 0} {b = sizeIn (sectionAt p k)} (type .1)),
-        )
+        rw (whole, count) (omega (arith, fills .2, div-add-mod' (4 * getD (sectionAt p k) 0 0) (sizeIn (sectionAt p k))))
 
     module _ (i : ℕ) where
       -- the part that an element is shown as, and where it stands

@@ -4,12 +4,12 @@ use native.Mathlib.Omega.{arith}
 use native.Mathlib.Decide.{ℕ-discrete}
 use mathlib.Core.Path.{_≡_, refl, sym, ap, _∙_}
 use mathlib.Core.Logic.{_≢_, _↔_, dite}
-use mathlib.Core.Bool.{Bool}
+use mathlib.Core.Bool.{Bool, true, false, true≢false}
 use mathlib.Core.List.{List, [], _∷_, _++_}
 use lib.Dec.{leb}
 use lib.ListN.{length, take, drop}
 use borrow.Author.Tests.{leb-true, leb-false, le-leb, lt-leb}
-use Rattle.basics.specs.Choice.{first}
+use Rattle.basics.specs.Choice.{choose, first}
 use Rattle.basics.proofs.Table.{Numbered, when-none, when-refused, AskedLast, asked-last}
 use Rattle.sections.specs.Answer.{counted, located, shown}
 use Rattle.sections.specs.declared.Count.{Count}
@@ -33,6 +33,21 @@ module _ (lines : List (Bool × ℕ)) (none : first lines ≡ 0) where
 pub counted-none : (lines : List (Bool × ℕ)) (n : ℕ) (c : Count) → c ≡ counted lines n → c .number ≡ 0 → c .count ≡ n
 counted-none lines n c is e =
     ap (λ (x : Count). x .count) is ∙ when-none _ n 0 (sym (ap (λ (x : Count). x .number) is) ∙ e)
+
+-- the number that two lines give
+pub record TwoLines (upper lower number : ℕ) (a b : Bool) : Type 0 where
+  pub none : (number ≡ 0) ↔ ((a ≡ false) × (b ≡ false))
+  pub first-line : (number ≡ upper) ↔ (a ≡ true)
+  pub second-line : (number ≡ lower) ↔ ((a ≡ false) × (b ≡ true))
+
+pub two-lines : (upper lower : ℕ) → 0 < upper → upper < lower → (a b : Bool) → TwoLines upper lower (first ((a, upper) ∷ (b, lower) ∷ [])) a b
+unfolding choose
+two-lines upper lower pos below true b =
+    record { none = (λ e. absurd (omega arith), λ x. absurd (true≢false (x .0))); first-line = (λ e. refl, λ e. refl); second-line = (λ e. absurd (omega arith), λ x. absurd (true≢false (x .0))) }
+two-lines upper lower pos below false true =
+    record { none = (λ e. absurd (omega arith), λ x. absurd (true≢false (x .1))); first-line = (λ e. absurd (omega arith), λ e. absurd (true≢false (sym e))); second-line = (λ e. (refl, refl), λ x. refl) }
+two-lines upper lower pos below false false =
+    record { none = (λ e. (refl, refl), λ x. refl); first-line = (λ e. absurd (omega arith), λ e. absurd (true≢false (sym e))); second-line = (λ e. absurd (omega arith), λ x. absurd (true≢false (sym (x .1)))) }
 
 -- a number at or above the count is refused
 pub asked-below : (number : ℕ) → 0 < number → (lines : List (Bool × ℕ)) → Numbered lines → (n k : ℕ)

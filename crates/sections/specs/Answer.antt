@@ -1,4 +1,4 @@
--- What is answered about sections and elements: document 01's refusals 8 to 11 in the stated orders, or what was asked for.
+-- What is answered about sections and elements: document 01's refusals 8 to 11 and document 02's 13 in the stated orders, or what was asked for.
 use Prim.Native.Nat.{ℕ, _+_, _%_}
 use mathlib.Core.Bool.{Bool, _||_, not}
 use mathlib.Core.List.{List, [], _∷_, _++_}
@@ -7,7 +7,7 @@ use lib.ListN.{length}
 use Rattle.basics.specs.Choice.{choose, first}
 use Rattle.record.specs.declared.Header.{Header}
 use Rattle.sections.specs.Section.{sectionsOf, overrun, sectionAt, startOf}
-use Rattle.sections.specs.Element.{sizeIn, elementsIn, offsetIn, elementAt}
+use Rattle.sections.specs.Element.{sizeIn, elementsIn, partialElement, offsetIn, elementAt}
 use Rattle.sections.specs.declared.Count.{Count}
 use Rattle.sections.specs.declared.Part.{Part}
 
@@ -24,11 +24,12 @@ blockLines header payload = (notBlock header (length payload), 8) ∷ (overrun p
 abbrev pub sectionLines : Header → List ℕ → ℕ → List (Bool × ℕ)
 sectionLines header payload k = blockLines header payload ++ ((leb (length (sectionsOf payload)) k, 10) ∷ [])
 
--- an element count: 8, 9, 10, 11
+-- an element count: 8, 9, 10, 11, 13
 abbrev pub typeLines : Header → List ℕ → ℕ → List (Bool × ℕ)
-typeLines header payload k = sectionLines header payload k ++ ((eqb (sizeIn (sectionAt payload k)) 0, 11) ∷ [])
+typeLines header payload k =
+    sectionLines header payload k ++ ((eqb (sizeIn (sectionAt payload k)) 0, 11) ∷ (partialElement (sectionAt payload k), 13) ∷ [])
 
--- an element: 8, 9, 10 for the section, 11, 10 for the element
+-- an element: 8, 9, 10 for the section, 11, 13, 10 for the element
 abbrev pub elementLines : Header → List ℕ → ℕ → ℕ → List (Bool × ℕ)
 elementLines header payload k i = typeLines header payload k ++ ((leb (elementsIn (sectionAt payload k)) i, 10) ∷ [])
 

@@ -1,5 +1,6 @@
 -- The elements of a section.
-use Prim.Native.Nat.{ℕ, _+_, _*_, _/_}
+use Prim.Native.Nat.{ℕ, _+_, _*_, _/_, _%_}
+use mathlib.Core.Bool.{Bool, _&&_}
 use mathlib.Core.List.{List, [], _∷_}
 use lib.Dec.{eqb}
 use lib.IntN.{ℤ}
@@ -26,9 +27,13 @@ elementSize type =
 abbrev pub sizeIn : List ℕ → ℕ
 sizeIn section = elementSize (typeOf section)
 
--- the number of elements is 4n divided by the size, rounded down; left-over bytes are ignored
+-- the number of elements is 4n divided by the size
 abbrev pub elementsIn : List ℕ → ℕ
 elementsIn section = 4 * framesIn section / sizeIn section
+
+-- document 02, No. 6: "A section of type 0x0A with an odd number of frames": the last four bytes are half an element
+abbrev pub partialElement : List ℕ → Bool
+partialElement section = eqb (typeOf section) 0x0A && eqb (framesIn section % 2) 1
 
 -- the bytes of a section before element i
 abbrev pub offsetIn : List ℕ → ℕ → ℕ

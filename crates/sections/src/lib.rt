@@ -152,9 +152,16 @@ pub fn element_count(header: Header, payload: &[u8], k: usize) -> Count
             count: 0,
         };
     }
+    let bytes = 4 * (section[0] as usize);
+    if bytes % size != 0 {
+        return Count {
+            number: 13,
+            count: 0,
+        };
+    }
     Count {
         number: 0,
-        count: 4 * (section[0] as usize) / size,
+        count: bytes / size,
     }
 }
 

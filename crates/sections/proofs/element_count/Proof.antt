@@ -3,7 +3,7 @@ use native.Mathlib.Omega.{arith}
 use mathlib.Core.Path.{_≡_, ap, _∙_}
 use Rattle.sections.specs.Section.{sectionAt}
 use Rattle.sections.specs.Element.{elementSize, sizeIn}
-use Rattle.sections.proofs.Elements.{Seen, seen, count-refused, count-untyped, count-typed}
+use Rattle.sections.proofs.Elements.{Seen, seen, count-refused, count-untyped, count-partial, count-whole}
 use borrow.Author.Needs.{needs}
 use Rattle.sections.proofs.element_count.Statement.{statement}
 use Rattle.sections.proofs.element_count.Tie as tie
@@ -51,25 +51,39 @@ returns-2 c =
     let part = known .before .before .find-section in
     count-untyped (a .header) (a .payload .now) (a .k) (part .result) (part .ensures) (known .if1 .left) (c .before .element-size .result) (sized (c .before)) (c .if2 .taken)
 
-shared-slice-read-t13 : tie.Need-shared-slice-read-t13
-shared-slice-read-t13 c = omega (arith, header (c .before .before .before .before .before) .long)
+shared-slice-read-bytes : tie.Need-shared-slice-read-bytes
+shared-slice-read-bytes c = omega (arith, header (c .before .before .before .before .before) .long)
 
-cast-t10 : tie.Need-cast-t10
-cast-t10 c = omega (arith, c .shared-slice-known3 .given 0)
+cast-bytes : tie.Need-cast-bytes
+cast-bytes c = omega (arith, c .shared-slice-known3 .given 0)
 
-mul-t15 : tie.Need-mul-t15
-mul-t15 c = omega (arith, c .shared-slice-known3 .given 0)
+mul-bytes : tie.Need-mul-bytes
+mul-bytes c = omega (arith, c .shared-slice-known3 .given 0)
 
-div-t16 : tie.Need-div-t16
-div-t16 c = search needs
+rem-if3 : tie.Need-rem-if3
+rem-if3 c = search needs
 
 returns-3 : tie.Need-returns-3
 returns-3 c =
-    let known = c .before .before .before .before .before in
+    let sizes = c .before .before .before in
+    let known = sizes .before .before .before in
+    let a = start known .args in
+    let part = known .before .before .find-section in
+    count-partial (a .header) (a .payload .now) (a .k) (part .result) (part .ensures) (known .if1 .left) (sizes .element-size .result) (sized sizes) (c .before .before .if2 .left)
+    (rw (header known .byte 0 (omega arith)) at (c .if3 .taken))
+
+div-t11 : tie.Need-div-t11
+div-t11 c = search needs
+
+returns-4 : tie.Need-returns-4
+returns-4 c =
+    let sizes = c .before .before .before in
+    let known = sizes .before .before .before in
     let a = start known .args in
     let part = known .before .before .find-section in
     rw (header known .byte 0 (omega arith))
-    (count-typed (a .header) (a .payload .now) (a .k) (part .result) (part .ensures) (known .if1 .left) (c .before .before .element-size .result) (sized (c .before .before)) (c .before .if2 .left))
+    (count-whole (a .header) (a .payload .now) (a .k) (part .result) (part .ensures) (known .if1 .left) (sizes .element-size .result) (sized sizes) (c .before .before .if2 .left)
+    (rw (header known .byte 0 (omega arith)) at (c .if3 .left)))
 
 pub element-count-spec : {M : Type 1} → statement M
 element-count-spec =
@@ -83,8 +97,10 @@ element-count-spec =
     shared-slice-read-element-size
     element-size-requires
     returns-2
-    shared-slice-read-t13
-    cast-t10
-    mul-t15
-    div-t16
-    returns-3)
+    shared-slice-read-bytes
+    cast-bytes
+    mul-bytes
+    rem-if3
+    returns-3
+    div-t11
+    returns-4)
