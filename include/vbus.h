@@ -38,7 +38,7 @@
 
 /* The version of this library, not of a stream. */
 #define VBUS_VERSION_MAJOR 0
-#define VBUS_VERSION_MINOR 5
+#define VBUS_VERSION_MINOR 6
 #define VBUS_VERSION_PATCH 0
 
 /* The longest payload and the longest stream, both those of a packet with 127 frames. */
@@ -70,7 +70,8 @@ enum vbus_refusal {
     VBUS_SECTION_PAST_END = 9,      /* a section runs past the payload's end */
     VBUS_NO_SUCH_PART = 10,         /* no section or element has that number */
     VBUS_UNKNOWN_SECTION_TYPE = 11, /* no element size is known for the section's type */
-    VBUS_POSITION_OVERFLOW = 12     /* a receiver's position would pass the largest 64-bit number */
+    VBUS_POSITION_OVERFLOW = 12,    /* a receiver's position would pass the largest 64-bit number */
+    VBUS_PARTIAL_ELEMENT = 13       /* a section ends within an element */
 };
 
 /* A record is this and a payload: 4 bytes a frame in a packet (0 to 127 frames); 6 bytes in a datagram (2 of
@@ -238,12 +239,15 @@ int32_t vbus_value(const uint8_t payload[6]);
  * Sections of a block packet (version 0x10, destination 0x0015, command 0x0100; the source is free). A section is a
  * header of 4 bytes (payload frames f, type, two reserved bytes) and 4f bytes. Sections and elements count from 0.
  * Elements have 2 bytes in type 0x01 (temperatures), 4 in 0x05 (heat quantities), 1 in 0x08 (relay speeds), 8 in
- * 0x0A (smart display), 4 in 0x0B, 0x0C and 0x0D (masks). Bytes left over behind the last element are ignored.
+ * 0x0A (smart display), 4 in 0x0B, 0x0C and 0x0D (masks). Only a section of type 0x0A can end within an element: one
+ * with an odd number of frames, whose last four bytes are half an element. It is found as a section, but its elements
+ * are refused. In every section whose elements are counted, they fill it: no byte is left over.
  * The refusals, of which each function names its own:
  *   VBUS_NOT_BLOCK_PACKET (8): the header isn't a block packet's, or n isn't a multiple of 4 or is above 508
  *   VBUS_SECTION_PAST_END (9): some section, whichever is asked for, runs past the payload's end
  *   VBUS_NO_SUCH_PART (10) for the section: there is none with that number
  *   VBUS_UNKNOWN_SECTION_TYPE (11): the section's type isn't one of those above
+ *   VBUS_PARTIAL_ELEMENT (13): the section has type 0x0A and an odd number of frames
  *   VBUS_NO_SUCH_PART (10) for the element: the section has none with that number
  */
 
@@ -257,12 +261,12 @@ vbus_part vbus_section(vbus_header header, const uint8_t *payload, size_t n, siz
 
 /* How many elements a section has.
  *   VBUS_NOT_BLOCK_PACKET (8), VBUS_SECTION_PAST_END (9), VBUS_NO_SUCH_PART (10) for the section,
- *   VBUS_UNKNOWN_SECTION_TYPE (11) */
+ *   VBUS_UNKNOWN_SECTION_TYPE (11), VBUS_PARTIAL_ELEMENT (13) */
 vbus_count vbus_element_count(vbus_header header, const uint8_t *payload, size_t n, size_t section);
 
 /* Where an element is.
  *   VBUS_NOT_BLOCK_PACKET (8), VBUS_SECTION_PAST_END (9), VBUS_NO_SUCH_PART (10) for the section,
- *   VBUS_UNKNOWN_SECTION_TYPE (11), VBUS_NO_SUCH_PART (10) for the element */
+ *   VBUS_UNKNOWN_SECTION_TYPE (11), VBUS_PARTIAL_ELEMENT (13), VBUS_NO_SUCH_PART (10) for the element */
 vbus_part vbus_element(vbus_header header, const uint8_t *payload, size_t n, size_t section, size_t element);
 
 /* A temperature: an element's two bytes in a section of type 0x01, low byte first, as a signed number. They stand at

@@ -117,6 +117,7 @@ static const struct {
     NUMBER(VBUS_NO_SUCH_PART, 10),
     NUMBER(VBUS_UNKNOWN_SECTION_TYPE, 11),
     NUMBER(VBUS_POSITION_OVERFLOW, 12),
+    NUMBER(VBUS_PARTIAL_ELEMENT, 13),
     NUMBER(VBUS_VERDICT_WHOLE, 0),
     NUMBER(VBUS_VERDICT_NO_SYNC, 1),
     NUMBER(VBUS_VERDICT_HIGH_BYTE, 2),
@@ -570,6 +571,11 @@ static void refused_blocks(void) {
     CHECK(part_is(vbus_element(block, payload, BLOCKS, 0, 6), VBUS_NO_SUCH_PART, 0, 0));
     CHECK(count_is(vbus_element_count(block, payload, BLOCKS, 1), VBUS_UNKNOWN_SECTION_TYPE, 0));
     CHECK(part_is(vbus_element(block, payload, BLOCKS, 1, 9), VBUS_UNKNOWN_SECTION_TYPE, 0, 0));
+    payload[17] = before[17] = 0x0A; /* one frame of display */
+    CHECK(part_is(vbus_section(block, payload, BLOCKS, 1), 0, 16, 8));
+    CHECK(count_is(vbus_element_count(block, payload, BLOCKS, 1), VBUS_PARTIAL_ELEMENT, 0));
+    CHECK(part_is(vbus_element(block, payload, BLOCKS, 1, 0), VBUS_PARTIAL_ELEMENT, 0, 0));
+    CHECK(part_is(vbus_element(block, payload, BLOCKS, 1, SIZE_MAX), VBUS_PARTIAL_ELEMENT, 0, 0));
     CHECK(memcmp(payload, before, BLOCKS) == 0);
 }
 

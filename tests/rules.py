@@ -290,8 +290,12 @@ def element_count(header, payload, k):
     number, start, length = section(header, payload, k)
     if number:
         return number, 0
-    size = ELEMENT_SIZE.get(payload[start + 1])
-    return (0, (length - 4) // size) if size else (11, 0)
+    frames, kind = payload[start], payload[start + 1]
+    if kind not in ELEMENT_SIZE:
+        return 11, 0
+    if kind == 0x0A and frames % 2 == 1:
+        return 13, 0
+    return 0, 4 * frames // ELEMENT_SIZE[kind]
 
 
 def element(header, payload, k, i):

@@ -176,9 +176,10 @@ def section(name, text, k):
     ask("S", name, payload, number, start, length, hexed(payload[start : start + length]), first=k, header=BLOCK)
 
 
-def element(name, text, k, i):
+def element(name, text, k, i, number=0):
     payload = bytes.fromhex(text)
-    number, start, length = rules.element(BLOCK, payload, k, i)
+    said, start, length = rules.element(BLOCK, payload, k, i)
+    assert said == number, name
     ask("M", name, payload, number, start, length, hexed(payload[start : start + length]), first=k, second=i, header=BLOCK)
 
 
@@ -468,8 +469,8 @@ for k, count in enumerate((1, 1, 16, 1)):
     section("section-48-%d" % k, E48, k)
 elements("elements-48-4", E48, 4, 0, 10)
 section("section-48-4", E48, 4)
-for k, i in ((0, 0), (0, 1), (2, 15), (2, 16), (4, 0)):
-    element("element-48-%d-%d" % (k, i), E48, k, i)
+for k, i, number in ((0, 0, 0), (0, 1, 10), (2, 15, 0), (2, 16, 10), (4, 0, 10)):
+    element("element-48-%d-%d" % (k, i), E48, k, i, number)
 sections("sections-eight-02", "02 0B 00 00 00 00 00 00", 0, 9)
 sections("sections-eight-01", "01 0B 00 00 00 00 00 00", 1)
 sections("sections-last-past", "00 0B 00 00 01 0B 00 00", 0, 9)
@@ -482,10 +483,17 @@ sections("sections-version-20", "00" * 4, 0, 8, (0x20, 0x0015, 0x7E11, 0x0100))
 sections("sections-destination-10", "00" * 4, 0, 8, (0x10, 0x0010, 0x7E11, 0x0100))
 sections("sections-command-0200", "00" * 4, 0, 8, (0x10, 0x0015, 0x7E11, 0x0200))
 TYPES = "03 01 00 00" + "01 02 03 04 05 06 07 08 09 0A 0B 0C" + "02 05 00 00 D1 D2 D3 D4 E1 E2 E3 E4" + "03 0A 00 00" + "0F" * 12 + "01 02 00 00 00 00 00 00"
-for k, (count, number) in enumerate(((6, 0), (2, 0), (1, 0), (0, 11))):
+for k, (count, number) in enumerate(((6, 0), (2, 0), (0, 13), (0, 11))):
     elements("elements-types-%d" % k, TYPES, k, count, number)
-for k, i in ((0, 5), (1, 1), (2, 0), (2, 1), (3, 0)):
-    element("element-types-%d-%d" % (k, i), TYPES, k, i)
+for k, i, number in ((0, 5, 0), (1, 1, 0), (2, 0, 13), (2, 1, 13), (3, 0, 11)):
+    element("element-types-%d-%d" % (k, i), TYPES, k, i, number)
+# number, count, and the numbers of the first element and of one far beyond
+for frames, (number, count, first, far) in enumerate(((0, 0, 10, 10), (13, 0, 13, 13), (0, 1, 0, 10), (13, 0, 13, 13))):
+    display = "%02X 0A 00 00" % frames + "D1" * 4 * frames
+    elements("elements-display-%d" % frames, display, 0, count, number)
+    section("section-display-%d" % frames, display, 0)
+    element("element-display-%d-first" % frames, display, 0, 0, first)
+    element("element-display-%d-far" % frames, display, 0, 0xFFFF, far)
 temperature("temperature-F6FF", "F6 FF", -10)
 temperature("temperature-0080", "00 80", -32768)
 temperature("temperature-FF7F", "FF 7F", 32767)

@@ -418,6 +418,9 @@ static void chains(void) {
     chain[252] = 63;
     chain[253] = 0x08;
     blocks(508, chain);
+    /* the same, the last ends within an element */
+    chain[253] = 0x0A;
+    blocks(508, chain);
 }
 
 /* Prints each export's figure; gives the number of those over their limit. */

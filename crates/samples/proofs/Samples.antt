@@ -1,5 +1,5 @@
 -- The streams and records that the table asks of.
-use Prim.Native.Nat.{ℕ, zero, suc, _/_, _%_}
+use Prim.Native.Nat.{ℕ, zero, suc, _*_, _/_, _%_}
 use mathlib.Core.List.{List, [], _∷_, _++_}
 use lib.ListN.{take, replicate}
 use Rattle.record.specs.Record.{Record}
@@ -88,3 +88,7 @@ abbrev pub eachType : List ℕ
 eachType =
     bytes 24 0x01010000_A1A2A3A4_01050000_B1B2B3B4_01080000_C1C2C3C4
     ++ (bytes 20 0x020A0000_D1D2D3D4_D5D6D7D8_010B0000_E1E2E3E4 ++ bytes 24 0x010C0000_F1F2F3F4_010D0000_91929394_01020000_00000000)
+
+-- one section of the smart display
+abbrev pub display : ℕ → List ℕ
+display frames = frames ∷ 0x0A ∷ 0x00 ∷ 0x00 ∷ replicate (4 * frames) 0xD1

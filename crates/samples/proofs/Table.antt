@@ -30,7 +30,7 @@ use Rattle.sections.specs.Section.{cut, someShort}
 use Rattle.sections.specs.Element.{elementSize}
 use Rattle.sections.specs.Answer.{notBlock}
 use Rattle.samples.proofs.Questions.{Question, checksum, extract, inject, validate, read, carry, encode, value, next, receive, reset, fault, normalize, sections, section, elements, element, temperature, verdict, untouched, answer}
-use Rattle.samples.proofs.Samples.{bytes, recorded, p1, d1, t1, t2, p1Unused, d1Unused, threeUnused, threeClear, t2Septet, twoFrames, sixTopBits, threeFrames, threeFramesPayload, damaged, packet, datagram, telegram, blockHeader, example, eachType}
+use Rattle.samples.proofs.Samples.{bytes, recorded, p1, d1, t1, t2, p1Unused, d1Unused, threeUnused, threeClear, t2Septet, twoFrames, sixTopBits, threeFrames, threeFramesPayload, damaged, packet, datagram, telegram, blockHeader, example, eachType, display}
 
 -- a question and the answer that the papers give
 abbrev Row : Type 0
@@ -300,7 +300,13 @@ blockSections =
     ∷ (element blockHeader eachType 5 0, 0 ∷ 48 ∷ 4 ∷ bytes 4 0xF1F2F3F4)
     ∷ (element blockHeader eachType 6 0, 0 ∷ 56 ∷ 4 ∷ bytes 4 0x91929394)
     ∷ (element blockHeader eachType 6 1, 10 ∷ 0 ∷ 0 ∷ [])
-    ∷ (elements blockHeader (bytes 8 0x010A0000_00000000) 0, 0 ∷ 0 ∷ [])
+    ∷ (elements blockHeader (display 0) 0, 0 ∷ 0 ∷ [])
+    ∷ (elements blockHeader (display 1) 0, 13 ∷ 0 ∷ [])
+    ∷ (elements blockHeader (display 2) 0, 0 ∷ 1 ∷ [])
+    ∷ (elements blockHeader (display 3) 0, 13 ∷ 0 ∷ [])
+    ∷ (section blockHeader (display 3) 0, 0 ∷ 0 ∷ 16 ∷ display 3)
+    ∷ (element blockHeader (display 3) 0 0, 13 ∷ 0 ∷ 0 ∷ [])
+    ∷ (element blockHeader (display 3) 0 (2 ^ 64 - 1), 13 ∷ 0 ∷ 0 ∷ [])
     ∷ (elements blockHeader eachType 7, 11 ∷ 0 ∷ [])
     ∷ (element blockHeader eachType 7 9, 11 ∷ 0 ∷ 0 ∷ [])
     ∷ (temperature (0xF6 ∷ 0xFF ∷ []), 1 ∷ 10 ∷ [])

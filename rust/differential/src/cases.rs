@@ -354,6 +354,8 @@ impl Checker {
             match section.elements() {
                 Err(error) => self.holds(error.number() == count.number, what)?,
                 Ok(elements) => {
+                    let joined: Vec<u8> = elements.clone().flatten().copied().collect();
+                    self.holds(joined == section.payload(), what)?;
                     let same = elements.len() == count.count
                         && elements.enumerate().all(|(i, bytes)| {
                             let part = reference::element(header, payload, k, i);
@@ -723,10 +725,12 @@ impl Checker {
         }
         for frames in 0..=255 {
             for length in [4, 8, 4 + 4 * 126, 4 + 4 * usize::from(frames)] {
-                let mut payload = vec![0; length];
-                payload[0] = frames;
-                payload[1] = 0x01;
-                self.sections(BLOCK, &payload)?;
+                for section_type in recordings::SECTION_TYPES {
+                    let mut payload = vec![0; length];
+                    payload[0] = frames;
+                    payload[1] = section_type;
+                    self.sections(BLOCK, &payload)?;
+                }
             }
         }
         for count in 0..=128 {

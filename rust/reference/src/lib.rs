@@ -2,7 +2,7 @@
 //!
 //! The differential tests compare the proved library with it, and the benchmarks measure against
 //! it. It therefore shares no code with the library and follows the same interface: an answer
-//! carries a `number`, 0 on success and 1 to 12 for a refusal, and every other field of a refusal
+//! carries a `number`, 0 on success and 1 to 13 for a refusal, and every other field of a refusal
 //! is zero.
 
 #![forbid(unsafe_code)]
@@ -34,6 +34,7 @@ const SECTION_TOO_LONG: u32 = 9;
 const NO_SUCH_PART: u32 = 10;
 const UNKNOWN_SECTION_TYPE: u32 = 11;
 const TOO_MANY_BYTES: u32 = 12;
+const PARTIAL_ELEMENT: u32 = 13;
 
 #[derive(Clone, Copy, PartialEq, Eq, Debug, Default)]
 pub struct Header {
@@ -602,6 +603,9 @@ fn elements_of(section: &[u8]) -> Result<(usize, usize), u32> {
         0x0B..=0x0D => 4,
         _ => return Err(UNKNOWN_SECTION_TYPE),
     };
+    if section[1] == 0x0A && section[0] % 2 == 1 {
+        return Err(PARTIAL_ELEMENT);
+    }
     Ok((size, (section.len() - 4) / size))
 }
 

@@ -376,6 +376,11 @@ fn broken_sections() {
     assert_eq!(element_count(BLOCK, &payload, 0).number, 11);
     assert_eq!(element(BLOCK, &payload, 0, 9).number, 11);
     assert_eq!(element(BLOCK, &payload, 1, 0).number, 10);
+    payload[1] = 0x0A;
+    assert_eq!(section(BLOCK, &payload, 0).length, 8);
+    assert_eq!(element_count(BLOCK, &payload, 0).number, 13);
+    assert_eq!(element(BLOCK, &payload, 0, 0).number, 13);
+    assert_eq!(element(BLOCK, &payload, 0, 9).number, 13);
     assert_eq!(section_count(BLOCK, &payload[..7]).number, 8);
     assert_eq!(section_count(BLOCK, &[0; 512]).number, 8);
     assert_eq!(section_count(BLOCK, &[0; 508]).count, 127);

@@ -75,6 +75,7 @@ numbered! {
         10 NoSuchPart "there is no section or element with that number";
         11 UnknownSectionType "the section's type has no known element size";
         12 PositionOverflow "the chunk would take the position past the largest 64-bit number";
+        13 PartialElement "the section ends within an element: it has type 0x0A and an odd number of frames";
     }
 }
 

@@ -54,7 +54,8 @@ impl<'a> Section<'a> {
         &self.bytes()[4..]
     }
 
-    /// The number of elements; refused if the section's type is unknown.
+    /// The number of elements, which fill the section. Refused if the section's type is unknown, or
+    /// if it ends within an element: one of type 0x0A with an odd number of frames.
     pub fn element_count(&self) -> Result<usize, Error> {
         // SAFETY: pointer and count are those of a slice.
         let count = unsafe {
@@ -85,7 +86,15 @@ impl<'a> Section<'a> {
         Ok(&self.payload[part.start..part.start + part.length])
     }
 
-    /// The bytes of every element; refused if the section's type is unknown.
+    /// The bytes of every element; refused where [`element_count`](Section::element_count) is.
+    ///
+    /// ```
+    /// let header = vbus::Header::packet(0x0015, 0x7E21, 0x0100);
+    /// let display = vbus::section(header, &[1, 0x0A, 0, 0, 0x31, 0x32, 0x33, 0x34], 0)?;
+    /// assert_eq!(display.payload(), b"1234");
+    /// assert_eq!(display.elements().unwrap_err(), vbus::Error::PartialElement);
+    /// # Ok::<(), vbus::Error>(())
+    /// ```
     pub fn elements(&self) -> Result<Elements<'a>, Error> {
         Ok(Elements {
             section: *self,
@@ -108,7 +117,7 @@ impl<'a> Section<'a> {
         if self.section_type() != TEMPERATURES {
             return None;
         }
-        let elements = self.elements().expect("the type is known");
+        let elements = self.elements().expect("temperatures fill their section");
         let two = |bytes: &'a [u8]| bytes.try_into().expect("a temperature has two bytes");
         Some(elements.map(move |bytes| temperature(two(bytes))))
     }

@@ -84,6 +84,7 @@ fn numbers_of_refusals() {
         (10, Error::NoSuchPart),
         (11, Error::UnknownSectionType),
         (12, Error::PositionOverflow),
+        (13, Error::PartialElement),
     ];
     assert_eq!(Error::ALL, errors.map(|(_, error)| error));
     for (number, error) in errors {
@@ -91,7 +92,7 @@ fn numbers_of_refusals() {
         assert_eq!(Error::from_number(number), Some(error));
     }
     assert_eq!(Error::from_number(0), None);
-    assert_eq!(Error::from_number(13), None);
+    assert_eq!(Error::from_number(14), None);
 }
 
 /// The verdicts have these numbers, and there are no others: 5 is no longer given.

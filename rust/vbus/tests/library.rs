@@ -142,6 +142,12 @@ fn refusals() {
     assert_eq!(section(block, &[0, 1, 0, 0], 1), Err(Error::NoSuchPart));
     let unknown = section(block, &[0, 0x77, 0, 0], 0).unwrap();
     assert_eq!(unknown.element(0), Err(Error::UnknownSectionType));
+    let partial = section(block, &[1, 0x0A, 0, 0, 1, 2, 3, 4], 0).unwrap();
+    assert_eq!(partial.payload(), [1, 2, 3, 4]);
+    assert_eq!(partial.element_count(), Err(Error::PartialElement));
+    assert_eq!(partial.element(0), Err(Error::PartialElement));
+    assert_eq!(partial.element(usize::MAX), Err(Error::PartialElement));
+    assert_eq!(partial.elements().unwrap_err(), Error::PartialElement);
 }
 
 #[test]
