@@ -494,6 +494,7 @@ for frames, (number, count, first, far) in enumerate(((0, 0, 10, 10), (13, 0, 13
     section("section-display-%d" % frames, display, 0)
     element("element-display-%d-first" % frames, display, 0, 0, first)
     element("element-display-%d-far" % frames, display, 0, 0xFFFF, far)
+element("element-display-past-end", "03 0A 00 00" + "D1" * 8, 0, 0, 9)
 temperature("temperature-F6FF", "F6 FF", -10)
 temperature("temperature-0080", "00 80", -32768)
 temperature("temperature-FF7F", "FF 7F", 32767)

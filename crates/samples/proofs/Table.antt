@@ -307,6 +307,8 @@ blockSections =
     ∷ (section blockHeader (display 3) 0, 0 ∷ 0 ∷ 16 ∷ display 3)
     ∷ (element blockHeader (display 3) 0 0, 13 ∷ 0 ∷ 0 ∷ [])
     ∷ (element blockHeader (display 3) 0 (2 ^ 64 - 1), 13 ∷ 0 ∷ 0 ∷ [])
+    ∷ (element (record { version = 0x10; destination = 0x0015; source = 0; command = 0x0101 }) (display 3) 0 0, 8 ∷ 0 ∷ 0 ∷ [])
+    ∷ (element blockHeader (take 12 (display 3)) 0 0, 9 ∷ 0 ∷ 0 ∷ [])
     ∷ (elements blockHeader eachType 7, 11 ∷ 0 ∷ [])
     ∷ (element blockHeader eachType 7 9, 11 ∷ 0 ∷ 0 ∷ [])
     ∷ (temperature (0xF6 ∷ 0xFF ∷ []), 1 ∷ 10 ∷ [])

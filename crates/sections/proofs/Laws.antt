@@ -1,5 +1,6 @@
 -- What the answers promise of each other, with document 01's numbers: which refusal is given when, and where what is found lies.
--- Sections.antt has `sections-joined`, that the sections are the payload; Samples.antt the table of types, at every type.
+-- Sections.antt has `sections-joined`, that the sections are the payload; Elements.antt `elements-exist`, when 11 and 13 are given; Partial.antt
+-- `size-divides`, why no other type can have 13; Samples.antt the table of types, at every type.
 use Prim.Native.Nat.{ℕ, suc, _+_, _*_, _<_, _≤_}
 use native.Mathlib.Omega.{arith}
 use native.Mathlib.Nat.{div-add-mod'}

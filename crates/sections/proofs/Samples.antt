@@ -1,4 +1,4 @@
--- Document 01's table of types at every type, temperatures, and a part of a payload, computed: every law holds as well of another table.
+-- Document 01's table of types at every type, temperatures, and a part of a payload, computed: every law holds as well of other tables.
 use Prim.Native.Nat.{ℕ, zero, suc}
 use native.Mathlib.Omega.{arith}
 use mathlib.Core.Path.{_≡_, refl, ap}
