@@ -14,7 +14,7 @@ use borrow.Author.Tests.{eq-eqb, ne-eqb, eqb-true, eqb-false, not-false, le-leb,
 use Rattle.basics.proofs.Over.{part}
 use Rattle.basics.proofs.Table.{Numbered, first-kept, first-next, first-none, when-none, last-unasked, last-passed, last-taken, last-free}
 use Rattle.record.specs.declared.Header.{Header}
-use Rattle.sections.specs.Section.{framesIn, typeOf, sectionAt, startOf}
+use Rattle.sections.specs.Section.{framesIn, sectionAt, startOf}
 use Rattle.sections.specs.Element.{elementSize, sizeIn, elementsIn, partialElement, offsetIn, elementAt}
 use Rattle.sections.specs.Answer.{sectionLines, typeLines, elementLines, sectionFound, elementCount, elementFound}
 use Rattle.sections.specs.declared.Count.{Count}
@@ -42,10 +42,10 @@ pub record Seen (p : List ℕ) (k start : ℕ) : Type 0 where
 
 module _ (h : Header) (p : List ℕ) (k : ℕ) where
   abbrev type : ℕ
-  type = typeOf (sectionAt p k)
+  type = getD (sectionAt p k) 1 0
 
   abbrev frames : ℕ
-  frames = framesIn (sectionAt p k)
+  frames = getD (sectionAt p k) 0 0
 
   -- ── which refusal is given when
 

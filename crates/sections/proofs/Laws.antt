@@ -1,15 +1,15 @@
 -- What the answers promise of each other, with document 01's numbers: which refusal is given when, and where what is found lies.
 -- Sections.antt has `sections-joined`, that the sections are the payload; Elements.antt `elements-exist`, when 11 and 13 are given; Partial.antt
 -- `size-divides`, why no other type can have 13; Samples.antt the table of types, at every type.
-use Prim.Native.Nat.{ℕ, suc, _+_, _*_, _<_, _≤_}
+use Prim.Native.Nat.{ℕ, zero, suc, _+_, _*_, _<_, _≤_}
 use native.Mathlib.Omega.{arith}
-use native.Mathlib.Nat.{div-add-mod'}
-use mathlib.Core.Path.{_≡_, refl, sym, ap, _∙_}
+use native.Mathlib.Nat.{div-add-mod', zero-mul, suc-mul}
+use mathlib.Core.Path.{_≡_, refl, sym, ap, ap₂, _∙_}
 use mathlib.Core.Logic.{_≢_, _↔_}
 use mathlib.Core.Bool.{Bool, true, false, true≢false}
-use mathlib.Core.List.{List, [], flatten}
-use lib.ListN.{length, getD, take, drop}
-use lib.Seq.{take-all}
+use mathlib.Core.List.{List, [], _++_, flatten}
+use lib.ListN.{length, getD, take, drop, length-drop}
+use lib.Seq.{take-all, take-add, drop-drop}
 use denote.Ref.{RefT, now}
 use Rattle.basics.specs.Choice.{choose}
 use Rattle.basics.proofs.Table.{when-none, when-refused, AskedLast}
@@ -146,6 +146,37 @@ module _ (h : Header) (p : List ℕ) where
             placed = rw (start, section, size);
             inside = omega (arith, start, size, section, section-length k (s .found), s .fits);
           }
+
+  -- n elements of section k, from number i on, as they are shown, end to end
+  abbrev pub elementsShown : ℕ → ℕ → ℕ → List ℕ
+  elementsShown k i zero = []
+  elementsShown k i (suc n) = elementShown h p k i ++ elementsShown k (suc i) n
+
+  module _ (k : ℕ) (none : elementCount h p k .number ≡ 0) where
+    abbrev size : ℕ
+    size = sizeIn (sectionAt p k)
+
+    joined : (i n : ℕ) → i + n ≡ elementCount h p k .count → elementsShown k i n ≡ take (n * size) (drop (offsetIn (sectionAt p k) i) (sectionAt p k))
+    joined i zero e = rw (zero-mul size)
+    joined i (suc n) e =
+        let found = element-exists k i .given none .1 (omega arith) in
+        let at : ℕ = offsetIn (sectionAt p k) i in
+        let next : offsetIn (sectionAt p k) (suc i) ≡ at + size = omega (arith, suc-mul i size) in
+        let all : size + n * size ≡ suc n * size = omega (arith, suc-mul n size) in
+        ap₂ _++_ (when-none _ (elementAt (sectionAt p k) i) [] found)
+        (joined (suc i) n (omega arith) ∙ rw (next, drop-drop size at (sectionAt p k)))
+        ∙ sym (take-add size (n * size) (drop at (sectionAt p k)))
+        ∙ ap (λ (m : ℕ). take m (drop at (sectionAt p k))) all
+
+    -- the elements that are counted, end to end, are their section's bytes behind its header: none is dropped
+    pub elements-joined : elementsShown k 0 (elementCount h p k .count) ≡ drop 4 (sectionShown h p k)
+    elements-joined =
+        let found = elements-exist h p k .none .0 none .0 in
+        let all : ℕ = elementCount h p k .count * size in
+        joined 0 (elementCount h p k .count) (omega arith)
+        ∙ ap (λ (m : ℕ). take all (drop (4 + m) (sectionAt p k))) (zero-mul size)
+        ∙ take-all all (drop 4 (sectionAt p k)) (omega (arith, elements-fill k none, section-length k found, length-drop 4 (sectionAt p k)))
+        ∙ ap (λ (l : List ℕ). drop 4 l) (sym (when-none _ (sectionAt p k) [] found))
 
 -- an answer shows an empty part exactly if it has a refusal's number
 pub shown-empty : (h : Header) (s : RefT (List ℕ)) (k : ℕ) (r : Shown)
