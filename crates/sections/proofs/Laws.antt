@@ -4,14 +4,14 @@
 use Prim.Native.Nat.{ℕ, zero, suc, _+_, _*_, _<_, _≤_}
 use native.Mathlib.Omega.{arith}
 use native.Mathlib.Nat.{div-add-mod', zero-mul, suc-mul}
-use mathlib.Core.Path.{_≡_, refl, sym, ap, ap₂, _∙_}
+use mathlib.Core.Path.{_≡_, sym, ap, ap₂, _∙_}
 use mathlib.Core.Logic.{_≢_, _↔_}
 use mathlib.Core.Bool.{Bool, true, false, true≢false}
-use mathlib.Core.List.{List, [], _++_, flatten}
+use mathlib.Core.List.{List, [], _∷_, _++_, flatten}
 use lib.ListN.{length, getD, take, drop, length-drop}
 use lib.Seq.{take-all, take-add, drop-drop}
 use denote.Ref.{RefT, now}
-use Rattle.basics.specs.Choice.{choose}
+use Rattle.basics.specs.Choice.{first}
 use Rattle.basics.proofs.Table.{when-none, when-refused, AskedLast}
 use Rattle.record.specs.declared.Header.{Header}
 use Rattle.sections.specs.Section.{sectionsOf, overrun, sectionAt, startOf}
@@ -19,7 +19,7 @@ use Rattle.sections.specs.Element.{elementSize, sizeIn, elementsIn, offs
 use Rattle.sections.specs.Answer.{notBlock, blockLines, sectionLines, typeLines, elementLines, sectionCount, sectionFound, sectionShown, elementCount, elementFound, elementShown}
 use Rattle.sections.specs.Part.{Shows}
 use Rattle.sections.specs.declared.Shown.{Shown}
-use Rattle.sections.proofs.Tables.{asked-below, located-within, shown-at, shown-none}
+use Rattle.sections.proofs.Tables.{is-true, two-lines, asked-below, located-within, shown-at, shown-none}
 use Rattle.sections.proofs.Sections.{Whole, overrun-exactly, start-next, sections-joined}
 use Rattle.sections.proofs.Finding.{BlockPacket, block-exactly, block-numbered, found-present, section-standing}
 use Rattle.sections.proofs.Elements.{elements-exist, type-numbered, element-inside}
@@ -30,16 +30,17 @@ pub record Refusal (number : ℕ) (block whole : Type 0) : Type 0 where
   pub eight : (number ≡ 8) ↔ (block → ⊥)
   pub nine : (number ≡ 9) ↔ (block × (whole → ⊥))
 
-by-two : (a b : Bool) {A B : Type 0} → (a ≡ false) ↔ A → (b ≡ false) ↔ B → Refusal (choose a 8 (choose b 9 0)) A B
-unfolding choose
-by-two true b {A} f g =
-    let never : A → ⊥ = λ x. true≢false (f .1 x) in
-    record { none = (λ e. absurd (omega arith), λ x. absurd (never (x .0))); eight = (λ e. never, λ x. refl); nine = (λ e. absurd (omega arith), λ x. absurd (never (x .0))) }
-by-two false true {A} {B} f g =
-    let never : B → ⊥ = λ x. true≢false (g .1 x) in
-    record { none = (λ e. absurd (omega arith), λ x. absurd (never (x .1))); eight = (λ e. absurd (omega arith), λ x. absurd (x (f .0 refl))); nine = (λ e. (f .0 refl, never), λ x. refl) }
-by-two false false f g =
-    record { none = (λ e. (f .0 refl, g .0 refl), λ x. refl); eight = (λ e. absurd (omega arith), λ x. absurd (x (f .0 refl))); nine = (λ e. absurd (omega arith), λ x. absurd (x .1 (g .0 refl))) }
+by-two : (a b : Bool) {A B : Type 0} → (a ≡ false) ↔ A → (b ≡ false) ↔ B → Refusal (first ((a, 8) ∷ (b, 9) ∷ [])) A B
+by-two a b f g =
+    let lines = two-lines 8 9 (omega arith) (omega arith) a b in
+    record {
+      none = (λ e. let x = lines .none .0 e in (f .0 (x .0), g .0 (x .1)), λ x. lines .none .1 (f .1 (x .0), g .1 (x .1)));
+      eight = (λ e x. true≢false (sym (lines .first-line .0 e) ∙ f .1 x), λ never. lines .first-line .1 (is-true a (λ e. never (f .0 e))));
+      nine = (
+        λ e. let x = lines .second-line .0 e in (f .0 (x .0), λ w. true≢false (sym (x .1) ∙ g .1 w)),
+        λ x. lines .second-line .1 (f .1 (x .0), is-true b (λ e. x .1 (g .0 e))),
+      );
+    }
 
 module _ (h : Header) (p : List ℕ) where
   -- sections are counted exactly if it is a block packet and each of them is whole; 8 exactly if it is none, else 9
