@@ -239,8 +239,9 @@ int32_t vbus_value(const uint8_t payload[6]);
  * Sections of a block packet (version 0x10, destination 0x0015, command 0x0100; the source is free). A section is a
  * header of 4 bytes (payload frames f, type, two reserved bytes) and 4f bytes. Sections and elements count from 0.
  * Elements have 2 bytes in type 0x01 (temperatures), 4 in 0x05 (heat quantities), 1 in 0x08 (relay speeds), 8 in
- * 0x0A (smart display), 4 in 0x0B, 0x0C and 0x0D (masks). Those that are counted fill their section: no byte is left
- * over. One of type 0x0A with an odd number of frames ends within an element: it is found, and its elements are refused.
+ * 0x0A (smart display), 4 in 0x0B, 0x0C and 0x0D (masks). Elements that are counted fill their section: no byte is
+ * left over. A section of type 0x0A with an odd number of frames ends within an element: vbus_section finds it, and its
+ * elements are refused.
  * The refusals, of which each function names its own:
  *   VBUS_NOT_BLOCK_PACKET (8): the header isn't a block packet's, or n isn't a multiple of 4 or is above 508
  *   VBUS_SECTION_PAST_END (9): some section, whichever is asked for, runs past the payload's end

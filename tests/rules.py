@@ -287,15 +287,15 @@ def section(header, payload, k):
 
 def element_count(header, payload, k):
     """number, count"""
-    number, start, length = section(header, payload, k)
+    number, start, _ = section(header, payload, k)
     if number:
         return number, 0
-    frames, kind = payload[start], payload[start + 1]
-    if kind not in ELEMENT_SIZE:
+    frames, section_type = payload[start], payload[start + 1]
+    if section_type not in ELEMENT_SIZE:
         return 11, 0
-    if kind == 0x0A and frames % 2 == 1:
+    if section_type == 0x0A and frames % 2 == 1:
         return 13, 0
-    return 0, 4 * frames // ELEMENT_SIZE[kind]
+    return 0, 4 * frames // ELEMENT_SIZE[section_type]
 
 
 def element(header, payload, k, i):

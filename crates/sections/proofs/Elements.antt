@@ -14,7 +14,7 @@ use borrow.Author.Tests.{eq-eqb, ne-eqb, eqb-true, eqb-false, not-false, le-leb,
 use Rattle.basics.proofs.Over.{part}
 use Rattle.basics.proofs.Table.{Numbered, first-kept, first-next, first-none, when-none, last-unasked, last-passed, last-taken, last-free}
 use Rattle.record.specs.declared.Header.{Header}
-use Rattle.sections.specs.Section.{framesIn, sectionAt, startOf}
+use Rattle.sections.specs.Section.{sectionAt, startOf}
 use Rattle.sections.specs.Element.{elementSize, sizeIn, elementsIn, partialElement, offsetIn, elementAt}
 use Rattle.sections.specs.Answer.{sectionLines, typeLines, elementLines, sectionFound, elementCount, elementFound}
 use Rattle.sections.specs.declared.Count.{Count}
@@ -49,8 +49,8 @@ module _ (h : Header) (p : List ℕ) (k : ℕ) where
 
   -- ── which refusal is given when
 
-  -- where the section is found, 11 is given exactly if its type isn't in the table, and 13 exactly if its type is 0x0A and its number of frames odd;
-  -- its elements are counted exactly if their size divides its bytes
+  -- a section that isn't found is refused as its lookup is; where it is found, 11 is given exactly if its type isn't in the table, and 13 exactly if
+  -- its type is 0x0A and its number of frames odd, and its elements are counted exactly if their size divides its bytes
   pub record ElementRefusal : Type 0 where
     pub kept : sectionFound h p k .number ≢ 0 → elementCount h p k .number ≡ sectionFound h p k .number
     pub eleven : (elementCount h p k .number ≡ 11) ↔ ((sectionFound h p k .number ≡ 0) × (elementSize type ≡ 0))
@@ -154,7 +154,7 @@ module _ (h : Header) (p : List ℕ) (k : ℕ) where
       let s = section-standing h p k (fills .0) in
       let size : ℕ = sizeIn (sectionAt p k) in
       let offset : ℕ = offsetIn (sectionAt p k) i in
-      let frames : i * size + size ≤ 4 * framesIn (sectionAt p k) = scaled i _ _ (fills .1) b in
+      let room : i * size + size ≤ 4 * frames = scaled i _ _ (fills .1) b in
       let fits : offset + size ≤ length (sectionAt p k) = omega (arith, s .whole) in
       record {
         found = fills .0;

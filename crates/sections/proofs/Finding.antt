@@ -4,7 +4,7 @@ use native.Mathlib.Omega.{arith}
 use native.Mathlib.Nat.{zero-add}
 use mathlib.Core.Path.{_≡_, sym, ap, _∙_}
 use mathlib.Core.Logic.{_≢_, _↔_}
-use mathlib.Core.Bool.{Bool, true, false, not}
+use mathlib.Core.Bool.{Bool, true, false, not, not-eq-not}
 use mathlib.Core.List.{List}
 use lib.Dec.{eqb, leb, ltb}
 use lib.ListN.{length}
@@ -17,7 +17,7 @@ use Rattle.sections.specs.Section.{sectionLength, sectionsOf, overrun}
 use Rattle.sections.specs.Answer.{notBlock, blockLines, sectionLines, sectionCount, sectionFound}
 use Rattle.sections.specs.Stage.{chainCount}
 use Rattle.sections.specs.declared.Count.{Count}
-use Rattle.sections.proofs.Tables.{is-true, counted-none, located-refused, located-given}
+use Rattle.sections.proofs.Tables.{counted-none, located-refused, located-given}
 use Rattle.sections.proofs.Sections.{sections-at-most, from, from-start, from-size, Standing, standing}
 
 -- what a block packet is, and which payloads it can have
@@ -47,7 +47,7 @@ block-exactly h n = (
 )
 
 pub no-block : (h : Header) (n : ℕ) → (BlockPacket h n → ⊥) → true ≡ notBlock h n
-no-block h n never = sym (is-true (notBlock h n) (λ e. never (block-exactly h n .0 e)))
+no-block h n never = sym (not-eq-not .0 (λ e. never (block-exactly h n .0 e)))
 
 pub room-left : (h : Header) (n : ℕ) → h .version ≡ 0x10 → h .destination ≡ 0x0015 → h .command ≡ 0x0100 → n % 4 ≡ 0 → ltb 508 n ≡ notBlock h n
 unfolding notBlock

@@ -6,7 +6,7 @@ use native.Mathlib.Omega.{arith}
 use native.Mathlib.Nat.{div-add-mod', zero-mul, suc-mul}
 use mathlib.Core.Path.{_≡_, sym, ap, ap₂, _∙_}
 use mathlib.Core.Logic.{_≢_, _↔_}
-use mathlib.Core.Bool.{Bool, true, false, true≢false}
+use mathlib.Core.Bool.{Bool, true, false, true≢false, not-eq-not}
 use mathlib.Core.List.{List, [], _∷_, _++_, flatten}
 use lib.ListN.{length, getD, take, drop, length-drop}
 use lib.Seq.{take-all, take-add, drop-drop}
@@ -19,7 +19,7 @@ use Rattle.sections.specs.Element.{elementSize, sizeIn, elementsIn, offs
 use Rattle.sections.specs.Answer.{notBlock, blockLines, sectionLines, typeLines, elementLines, sectionCount, sectionFound, sectionShown, elementCount, elementFound, elementShown}
 use Rattle.sections.specs.Part.{Shows}
 use Rattle.sections.specs.declared.Shown.{Shown}
-use Rattle.sections.proofs.Tables.{is-true, two-lines, asked-below, located-within, shown-at, shown-none}
+use Rattle.sections.proofs.Tables.{two-lines, asked-below, located-within, shown-at, shown-none}
 use Rattle.sections.proofs.Sections.{Whole, overrun-exactly, start-next, sections-joined}
 use Rattle.sections.proofs.Finding.{BlockPacket, block-exactly, block-numbered, found-present, section-standing}
 use Rattle.sections.proofs.Elements.{elements-exist, type-numbered, element-inside}
@@ -35,10 +35,10 @@ by-two a b f g =
     let lines = two-lines 8 9 (omega arith) (omega arith) a b in
     record {
       none = (λ e. let x = lines .none .0 e in (f .0 (x .0), g .0 (x .1)), λ x. lines .none .1 (f .1 (x .0), g .1 (x .1)));
-      eight = (λ e x. true≢false (sym (lines .first-line .0 e) ∙ f .1 x), λ never. lines .first-line .1 (is-true a (λ e. never (f .0 e))));
+      eight = (λ e x. true≢false (sym (lines .first-line .0 e) ∙ f .1 x), λ never. lines .first-line .1 (not-eq-not .0 (λ e. never (f .0 e))));
       nine = (
         λ e. let x = lines .second-line .0 e in (f .0 (x .0), λ w. true≢false (sym (x .1) ∙ g .1 w)),
-        λ x. lines .second-line .1 (f .1 (x .0), is-true b (λ e. x .1 (g .0 e))),
+        λ x. lines .second-line .1 (f .1 (x .0), not-eq-not .0 (λ e. x .1 (g .0 e))),
       );
     }
 

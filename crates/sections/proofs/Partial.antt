@@ -1,12 +1,12 @@
 -- Which sections end within an element: none but those of type 0x0A with an odd number of frames.
-use Prim.Native.Nat.{ℕ, _+_, _*_, _/_, _%_, _<_}
+use Prim.Native.Nat.{ℕ, _*_, _%_, _<_}
 use native.Mathlib.Omega.{arith}
-use native.Mathlib.Nat.{mod-eq-of-lt, mul-add-mod-self-left}
 use native.Mathlib.Decide.{ℕ-discrete}
-use mathlib.Core.Path.{_≡_, refl, sym, ap, _∙_}
+use mathlib.Core.Path.{_≡_, refl, sym, _∙_}
 use mathlib.Core.Logic.{_≢_, _↔_, dite}
 use mathlib.Core.Bool.{Bool, true, false, not, true≢false}
 use mathlib.Core.List.{List}
+use lib.Arith.{mod-mul}
 use lib.Dec.{eqb}
 use borrow.Author.Tests.{eq-eqb, ne-eqb, eqb-true}
 use Rattle.basics.specs.Choice.{choose}
@@ -37,9 +37,7 @@ display-size = refl
 
 -- of eight-byte elements, an odd number of frames leaves four bytes
 left-over : (frames : ℕ) → 4 * frames % 8 ≡ 4 * (frames % 2)
-left-over frames =
-    let halves : 4 * frames ≡ 8 * (frames / 2) + 4 * (frames % 2) = omega arith in
-    ap (λ (bytes : ℕ). bytes % 8) halves ∙ mul-add-mod-self-left 8 (frames / 2) (4 * (frames % 2)) ∙ mod-eq-of-lt (omega arith)
+left-over frames = omega (arith, mod-mul (4 * frames) {m = 2} {c = 4} (omega arith) (omega arith))
 
 odd-remainder : (frames : ℕ) → eqb (frames % 2) 1 ≡ not (eqb (4 * frames % 8) 0)
 odd-remainder frames =

@@ -34,10 +34,6 @@ pub counted-none : (lines : List (Bool × ℕ)) (n : ℕ) (c : Count) → c ≡ 
 counted-none lines n c is e =
     ap (λ (x : Count). x .count) is ∙ when-none _ n 0 (sym (ap (λ (x : Count). x .number) is) ∙ e)
 
-pub is-true : (t : Bool) → (t ≡ false → ⊥) → t ≡ true
-is-true true h = refl
-is-true false h = absurd (h refl)
-
 -- the number that two lines give
 pub record TwoLines (upper lower number : ℕ) (a b : Bool) : Type 0 where
   pub none : (number ≡ 0) ↔ ((a ≡ false) × (b ≡ false))

@@ -132,7 +132,7 @@ pub fn section<'a>(header: Header, payload: &'a [u8], k: usize) -> Shown<'a>
     }
 }
 
-// How many elements section k has. They fill it: where bytes would be left over, half an element, it is refused.
+// How many elements section k has. They fill it: a section that ends within an element is refused.
 pub fn element_count(header: Header, payload: &[u8], k: usize) -> Count
     ensures { λ r. ⌜ r ≡ elementCount header (now (payload .entry)) k ⌝ }
 {

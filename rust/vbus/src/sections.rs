@@ -55,7 +55,7 @@ impl<'a> Section<'a> {
     }
 
     /// The number of elements, which fill the section. Refused if the section's type is unknown, or
-    /// if it ends within an element: one of type 0x0A with an odd number of frames.
+    /// if the section has type 0x0A and an odd number of frames, and so ends within an element.
     pub fn element_count(&self) -> Result<usize, Error> {
         // SAFETY: pointer and count are those of a slice.
         let count = unsafe {
@@ -117,7 +117,9 @@ impl<'a> Section<'a> {
         if self.section_type() != TEMPERATURES {
             return None;
         }
-        let elements = self.elements().expect("temperatures fill their section");
+        let elements = self
+            .elements()
+            .expect("type 0x01 is known, and its elements fill any section");
         let two = |bytes: &'a [u8]| bytes.try_into().expect("a temperature has two bytes");
         Some(elements.map(move |bytes| temperature(two(bytes))))
     }
