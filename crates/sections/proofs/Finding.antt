@@ -68,6 +68,7 @@ module _ (h : Header) (p : List ℕ) where
   pub section-numbered : (k : ℕ) → Numbered (sectionLines h p k)
   section-numbered k = (omega arith, (omega arith, (omega arith, tt)))
 
+  -- a lookup of a section is refused as 8, 9 or 10
   pub section-most : (k : ℕ) → sectionFound h p k .number ≤ 10
   section-most k =
       line (notBlock h (length p)) (λ e. omega arith) (λ e.

@@ -70,7 +70,8 @@ impl<'a> Section<'a> {
         Ok(count.count)
     }
 
-    /// The bytes of element number `number`, counted from 0.
+    /// The bytes of element number `number`, counted from 0; refused where
+    /// [`element_count`](Section::element_count) is, and behind the last element.
     pub fn element(&self, number: usize) -> Result<&'a [u8], Error> {
         // SAFETY: pointer and count are those of a slice.
         let part = unsafe {
