@@ -99,6 +99,12 @@ module _ (h : Header) (p : List ℕ) (k : ℕ) where
 
   -- ── a count of elements, after what `find_section` answers
 
+  -- of a section that is found, by the size of its elements and the bytes left over
+  pub record Answers (size : ℕ) : Type 0 where
+    pub untyped : size ≡ 0 → record { number = 11; count = 0 } ≡ elementCount h p k
+    pub partial : size ≢ 0 → 4 * frames % size ≢ 0 → record { number = 13; count = 0 } ≡ elementCount h p k
+    pub whole : size ≢ 0 → 4 * frames % size ≡ 0 → record { number = 0; count = 4 * frames / size } ≡ elementCount h p k
+
   module _ (l : Part) (is : l ≡ sectionFound h p k) where
     number-is : l .number ≡ sectionFound h p k .number
     number-is = ap (λ (x : Part). x .number) is
@@ -121,18 +127,14 @@ module _ (h : Header) (p : List ℕ) (k : ℕ) where
             byte = λ i b. rw (part p (l .start), start) (s .head i b);
           }
 
-      module _ (size : ℕ) (sized : size ≡ sizeIn (sectionAt p k)) where
-        pub count-untyped : size ≡ 0 → record { number = 11; count = 0 } ≡ elementCount h p k
-        count-untyped z = counted-refused (typeLines h p k) 11 (elements-exist .eleven .1 (here, sym sized ∙ z)) (λ e. omega arith) _
-
-        pub count-partial : size ≢ 0 → 4 * frames % size ≢ 0 → record { number = 13; count = 0 } ≡ elementCount h p k
-        count-partial typed left =
+      pub answers : (size : ℕ) → size ≡ sizeIn (sectionAt p k) → Answers size
+      answers size sized = record {
+        untyped = λ z. counted-refused (typeLines h p k) 11 (elements-exist .eleven .1 (here, sym sized ∙ z)) (λ e. omega arith) _;
+        partial = λ typed left.
             let odd = partial-exactly (sectionAt p k) .0 (partial-remainder (sectionAt p k) (omega arith) ∙ rw (sym sized, ne-eqb _ 0 left)) in
-            counted-refused (typeLines h p k) 13 (elements-exist .thirteen .1 (here, odd .0, odd .1)) (λ e. omega arith) _
-
-        pub count-whole : size ≢ 0 → 4 * frames % size ≡ 0 → record { number = 0; count = 4 * frames / size } ≡ elementCount h p k
-        count-whole typed =
-            rw sized (λ fills. counted-given (typeLines h p k) (elements-exist .none .1 (here, omega arith, fills)) _)
+            counted-refused (typeLines h p k) 13 (elements-exist .thirteen .1 (here, odd .0, odd .1)) (λ e. omega arith) _;
+        whole = λ typed. rw sized (λ fills. counted-given (typeLines h p k) (elements-exist .none .1 (here, omega arith, fills)) _);
+      }
 
   -- ── an element
 

@@ -2,9 +2,9 @@
 use Prim.Native.Nat.{ℕ, _*_, _%_, _<_}
 use native.Mathlib.Omega.{arith}
 use native.Mathlib.Decide.{ℕ-discrete}
-use mathlib.Core.Path.{_≡_, refl, sym, _∙_}
+use mathlib.Core.Path.{_≡_, refl}
 use mathlib.Core.Logic.{_≢_, _↔_, dite}
-use mathlib.Core.Bool.{Bool, true, false, not, true≢false}
+use mathlib.Core.Bool.{Bool, true, false, not, and-eq-true-iff}
 use mathlib.Core.List.{List}
 use lib.Arith.{mod-mul}
 use lib.Dec.{eqb}
@@ -47,12 +47,9 @@ odd-remainder frames =
 
 module _ (section : List ℕ) where
   pub partial-exactly : (partialElement section ≡ true) ↔ ((typeOf section ≡ 0x0A) × (framesIn section % 2 ≡ 1))
-  partial-exactly = (
-    λ t. dite (ℕ-discrete (typeOf section) 0x0A)
-        (λ e. (e, eqb-true _ _ (rw (eq-eqb _ _ e) at t)))
-        (λ other. absurd (true≢false (sym t ∙ rw (ne-eqb _ 0x0A other)))),
-    λ both. rw (eq-eqb _ _ (both .0), eq-eqb _ _ (both .1)),
-  )
+  partial-exactly =
+      let both = and-eq-true-iff (eqb (typeOf section) 0x0A) (eqb (framesIn section % 2) 1) in
+      (λ t. (eqb-true _ _ (both .0 t .0), eqb-true _ _ (both .0 t .1)), λ x. both .1 (eq-eqb _ _ (x .0), eq-eqb _ _ (x .1)))
 
   -- of a type in the table, it is one that the size of its elements doesn't divide
   pub partial-remainder : 0 < sizeIn section → partialElement section ≡ not (eqb (4 * framesIn section % sizeIn section) 0)

@@ -1,9 +1,8 @@
 -- `element_count` meets its contract: the bytes at the section's start are its header. Assumes nothing.
 use native.Mathlib.Omega.{arith}
-use mathlib.Core.Path.{_≡_, ap, _∙_}
-use Rattle.sections.specs.Section.{sectionAt}
-use Rattle.sections.specs.Element.{elementSize, sizeIn}
-use Rattle.sections.proofs.Elements.{Seen, seen, count-refused, count-untyped, count-partial, count-whole}
+use mathlib.Core.Path.{ap, _∙_}
+use Rattle.sections.specs.Element.{elementSize}
+use Rattle.sections.proofs.Elements.{Seen, seen, count-refused, Answers, answers}
 use borrow.Author.Needs.{needs}
 use Rattle.sections.proofs.element_count.Statement.{statement}
 use Rattle.sections.proofs.element_count.Tie as tie
@@ -41,15 +40,16 @@ shared-slice-read-element-size c = omega (arith, header (c .before .before) .lon
 element-size-requires : tie.Need-element-size-requires
 element-size-requires c κs = search needs
 
-sized : (c : tie.After-element-size) → c .element-size .result ≡ sizeIn (sectionAt (start (c .before .before .before) .args .payload .now) (start (c .before .before .before) .args .k))
-sized c = c .element-size .ensures ∙ ap elementSize (header (c .before .before .before) .byte 1 (omega arith))
-
-returns-2 : tie.Need-returns-2
-returns-2 c =
-    let known = c .before .before .before .before in
+answer : (c : tie.After-element-size) → let a = start (c .before .before .before) .args in Answers (a .header) (a .payload .now) (a .k) (c .element-size .result)
+answer c =
+    let known = c .before .before .before in
     let a = start known .args in
     let part = known .before .before .find-section in
-    count-untyped (a .header) (a .payload .now) (a .k) (part .result) (part .ensures) (known .if1 .left) (c .before .element-size .result) (sized (c .before)) (c .if2 .taken)
+    answers (a .header) (a .payload .now) (a .k) (part .result) (part .ensures) (known .if1 .left)
+    (c .element-size .result) (c .element-size .ensures ∙ ap elementSize (header known .byte 1 (omega arith)))
+
+returns-2 : tie.Need-returns-2
+returns-2 c = answer (c .before) .untyped (c .if2 .taken)
 
 shared-slice-read-bytes : tie.Need-shared-slice-read-bytes
 shared-slice-read-bytes c = omega (arith, header (c .before .before .before .before .before) .long)
@@ -66,11 +66,8 @@ rem-if3 c = search needs
 returns-3 : tie.Need-returns-3
 returns-3 c =
     let sizes = c .before .before .before in
-    let known = sizes .before .before .before in
-    let a = start known .args in
-    let part = known .before .before .find-section in
-    count-partial (a .header) (a .payload .now) (a .k) (part .result) (part .ensures) (known .if1 .left) (sizes .element-size .result) (sized sizes) (c .before .before .if2 .left)
-    (rw (header known .byte 0 (omega arith)) at (c .if3 .taken))
+    let frames = header (sizes .before .before .before) .byte 0 (omega arith) in
+    answer sizes .partial (c .before .before .if2 .left) (rw frames at (c .if3 .taken))
 
 div-t11 : tie.Need-div-t11
 div-t11 c = search needs
@@ -78,12 +75,8 @@ div-t11 c = search needs
 returns-4 : tie.Need-returns-4
 returns-4 c =
     let sizes = c .before .before .before in
-    let known = sizes .before .before .before in
-    let a = start known .args in
-    let part = known .before .before .find-section in
-    rw (header known .byte 0 (omega arith))
-    (count-whole (a .header) (a .payload .now) (a .k) (part .result) (part .ensures) (known .if1 .left) (sizes .element-size .result) (sized sizes) (c .before .before .if2 .left)
-    (rw (header known .byte 0 (omega arith)) at (c .if3 .left)))
+    let frames = header (sizes .before .before .before) .byte 0 (omega arith) in
+    rw frames (answer sizes .whole (c .before .before .if2 .left) (rw frames at (c .if3 .left)))
 
 pub element-count-spec : {M : Type 1} → statement M
 element-count-spec =
