@@ -1,7 +1,9 @@
 -- `element_count` meets its contract: the bytes at the section's start are its header. Assumes nothing.
+use Prim.Native.Nat.{ℕ, _*_, _/_}
 use native.Mathlib.Omega.{arith}
 use mathlib.Core.Path.{ap, _∙_}
 use Rattle.sections.specs.Element.{elementSize}
+use Rattle.sections.specs.declared.Count.{Count}
 use Rattle.sections.proofs.Elements.{Seen, seen, count-refused, Answers, answers}
 use borrow.Author.Needs.{needs}
 use Rattle.sections.proofs.element_count.Statement.{statement}
@@ -76,7 +78,8 @@ returns-4 : tie.Need-returns-4
 returns-4 c =
     let sizes = c .before .before .before in
     let frames = header (sizes .before .before .before) .byte 0 (omega arith) in
-    rw frames (answer sizes .whole (c .before .before .if2 .left) (rw frames at (c .if3 .left)))
+    ap {B = Count} (λ (n : ℕ). record { number = 0; count = 4 * n / sizes .element-size .result }) frames
+    ∙ answer sizes .whole (c .before .before .if2 .left) (rw frames at (c .if3 .left))
 
 pub element-count-spec : {M : Type 1} → statement M
 element-count-spec =
