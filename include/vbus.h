@@ -8,19 +8,19 @@
  * call themselves once a section: 48 bytes each, 127 sections at most. tests/stack in the repository measures it.
  *
  * Pointers. This is the caller's to keep; no function can check it:
- *  - A pointer has as many bytes behind it as the count says that follows it (n, room), and bytes[7], bytes[2],
- *    payload[6] and memory[VBUS_MAX_STREAM] as many as the brackets say, whatever `length` says. Nothing beyond them
- *    is read or written.
+ *  - A pointer has as many bytes, a table as many entries, behind it as the count says that follows it (n, room), and
+ *    bytes[7], bytes[2], payload[6] and memory[VBUS_MAX_STREAM] as many as the brackets say, whatever `length` says.
+ *    Nothing beyond them is read or written.
  *  - With a count above 0, or brackets, the pointer must not be NULL. With count 0 it isn't read or written, and NULL
  *    is fine.
- *  - A buffer that is written (payload of vbus_next and vbus_receive, memory, out) must not overlap another of the
- *    call: a recording can't be normalized in place.
+ *  - A buffer that is written (payload of vbus_next and vbus_receive, memory, out, a table) must not overlap another of
+ *    the call: a recording can't be normalized in place.
  *  - While a call runs, nothing else writes to its buffers, nor reads those that it writes.
  *
  * Refusals. `number` is 0 where the function did its work, else the number of a refusal. At each function its refusals
  * stand in the order in which they are checked; the first that applies is given. After a refusal every buffer holds
- * what it held before, and every other field of the answer is 0, but a receiver, which comes back as it was. A function
- * without `number` never refuses.
+ * what it held before, and every other field of the answer is 0, but a receiver, which comes back as it was. The
+ * functions that change a table of slaves answer the number alone. A function without one never refuses.
  *
  * Unused septet bits. Bit i of a septet is the top bit of byte i of its block. A packet's frame has four bytes and a
  * datagram six, so bits 4 to 6 of a packet's septets and bit 6 of a datagram's stand for no byte; a telegram's frame
@@ -38,12 +38,15 @@
 
 /* The version of this library, not of a stream. */
 #define VBUS_VERSION_MAJOR 0
-#define VBUS_VERSION_MINOR 6
+#define VBUS_VERSION_MINOR 7
 #define VBUS_VERSION_PATCH 0
 
 /* The longest payload and the longest stream, both those of a packet with 127 frames. */
 #define VBUS_MAX_PAYLOAD 508
 #define VBUS_MAX_STREAM 772
+
+/* The entries of a table of slaves. */
+#define VBUS_SLAVES 32
 
 #ifdef __cplusplus
 extern "C" {
@@ -71,7 +74,13 @@ enum vbus_refusal {
     VBUS_NO_SUCH_PART = 10,         /* no section or element has that number */
     VBUS_UNKNOWN_SECTION_TYPE = 11, /* no element size is known for the section's type */
     VBUS_POSITION_OVERFLOW = 12,    /* a receiver's position would pass the largest 64-bit number */
-    VBUS_PARTIAL_ELEMENT = 13       /* a section ends within an element */
+    VBUS_PARTIAL_ELEMENT = 13,      /* a section ends within an element */
+    VBUS_NOT_SLAVE_ADDRESS = 14,    /* no slave has an address like that */
+    VBUS_ADDRESS_TAKEN = 15,        /* the table already has an entry with that address */
+    VBUS_TABLE_FULL = 16,           /* no entry of the table is free */
+    VBUS_NO_SUCH_ADDRESS = 17,      /* no entry of the table has that address */
+    VBUS_NOT_SLAVE_ID = 18,         /* no slave ID response, or an identifier that needs more than 24 bits */
+    VBUS_WRONG_TABLE_LENGTH = 24    /* the table hasn't VBUS_SLAVES entries */
 };
 
 /* A record is this and a payload: 4 bytes a frame in a packet (0 to 127 frames); 6 bytes in a datagram (2 of
@@ -146,6 +155,24 @@ typedef struct {
     size_t length;
     uint8_t septet;
 } vbus_septets;
+
+typedef struct {
+    uint32_t number;
+    uint32_t product, device; /* identifiers of 24 bits */
+    uint8_t week; /* of production, 0 to 127: device / 131072 */
+    uint32_t serial; /* consecutive number, 0 to 131071: device % 131072 */
+} vbus_slave_id;
+
+/* An entry of a table of slaves. It is free exactly if its address is 0. */
+typedef struct {
+    uint16_t address;
+    uint32_t product, device; /* identifiers of 24 bits */
+} vbus_slave;
+
+typedef struct {
+    uint32_t number;
+    uint32_t product, device;
+} vbus_slave_found;
 
 /* The checksum of n bytes: 0x7F less each byte, the low seven bits kept. Of no bytes it is 0x7F. */
 uint8_t vbus_checksum(const uint8_t *bytes, size_t n);
@@ -272,6 +299,57 @@ vbus_part vbus_element(vbus_header header, const uint8_t *payload, size_t n, siz
 /* A temperature: an element's two bytes in a section of type 0x01, low byte first, as a signed number. They stand at
  * payload + start of vbus_element's answer. */
 int16_t vbus_temperature(const uint8_t bytes[2]);
+
+/*
+ * Slaves. A slave answers a request for its identity with a slave ID response: a telegram with command 0x23, whose seven
+ * payload bytes are the product identifier, the device identifier, both of 24 bits and low byte first, and a 0.
+ */
+
+/* Reads the slave ID response that a record is: version VBUS_TELEGRAM or VBUS_TELEGRAM_31, any destination and source.
+ *   VBUS_NOT_SLAVE_ID (18): the record isn't such a telegram, or its seventh payload byte isn't 0 */
+vbus_slave_id vbus_read_slave_id(vbus_header header, const uint8_t *payload, size_t n);
+
+/* Writes the stream of a slave ID response, with version VBUS_TELEGRAM, to the start of `out`; the bytes behind it stay.
+ * It needs 17 bytes.
+ *   VBUS_NOT_SLAVE_ID (18): product or device is above 0xFFFFFF
+ *   VBUS_HIGH_ADDRESS (2): bit 7 or bit 15 of the destination or the source is set
+ *   VBUS_OUTPUT_TOO_SHORT (5): room is less than 17 */
+vbus_written vbus_write_slave_id(uint16_t destination, uint16_t source, uint32_t product, uint32_t device, uint8_t *out,
+                                 size_t room);
+
+/*
+ * A table of slaves is an array of VBUS_SLAVES entries of the caller's; all zero bytes are an empty one. Any n but
+ * VBUS_SLAVES is refused. Each call changes at most the one entry that it names, and after a refusal every entry is what
+ * it was. Calls never make an address stand in two entries; in a table brought in that has one twice, the entry with the
+ * lower index counts.
+ * The refusals, of which each function names its own; `number`, or the number that is answered, is 0 where there is none:
+ *   VBUS_WRONG_TABLE_LENGTH (24): n isn't VBUS_SLAVES
+ *   VBUS_NOT_SLAVE_ADDRESS (14): bits 14 to 12 of the (new) address aren't 2, bit 7 or 15 is set, or bits 11 to 4 are all
+ *     0. A slave has 0x2010 to 0x201F, for example, or 0x2100, and none below 0x2010 or above 0x2F7F
+ *   VBUS_NOT_SLAVE_ID (18): product or device is above 0xFFFFFF
+ *   VBUS_ADDRESS_TAKEN (15): an entry has the (new) address
+ *   VBUS_TABLE_FULL (16): no entry is free
+ *   VBUS_NO_SUCH_ADDRESS (17): no entry has the (old) address, or it is 0
+ */
+
+/* Enters a slave as the free entry with the lowest index.
+ *   VBUS_WRONG_TABLE_LENGTH (24), VBUS_NOT_SLAVE_ADDRESS (14), VBUS_NOT_SLAVE_ID (18), VBUS_ADDRESS_TAKEN (15),
+ *   VBUS_TABLE_FULL (16) */
+uint32_t vbus_slave_enter(vbus_slave *table, size_t n, vbus_slave slave);
+
+/* The identifiers of the slave with an address.
+ *   VBUS_WRONG_TABLE_LENGTH (24), VBUS_NO_SUCH_ADDRESS (17) */
+vbus_slave_found vbus_slave_find(const vbus_slave *table, size_t n, uint16_t address);
+
+/* Gives the slave with address `from` the address `to`; it keeps its identifiers. To the address that it has, it succeeds
+ * and changes nothing.
+ *   VBUS_WRONG_TABLE_LENGTH (24), VBUS_NOT_SLAVE_ADDRESS (14) for `to`, VBUS_NO_SUCH_ADDRESS (17) for `from`,
+ *   VBUS_ADDRESS_TAKEN (15) for `to`, unless it is `from` */
+uint32_t vbus_slave_change_address(vbus_slave *table, size_t n, uint16_t from, uint16_t to);
+
+/* Removes the slave with an address: every field of its entry is 0 afterwards.
+ *   VBUS_WRONG_TABLE_LENGTH (24), VBUS_NO_SUCH_ADDRESS (17) */
+uint32_t vbus_slave_remove(vbus_slave *table, size_t n, uint16_t address);
 
 #ifdef __cplusplus
 }

@@ -4,4 +4,5 @@ mod block_packets;
 mod receivers;
 mod recordings;
 mod records;
+mod slaves;
 mod streams;

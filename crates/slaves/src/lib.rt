@@ -1,0 +1,105 @@
+// The table of slaves (request No. 7), lent as a slice of entries. Each function over it is thin and has a walk for its proof;
+// what it decides stands in `plan`, on plain values.
+ghost use mathlib.Core.Path.{_≡_};
+ghost use lib.ListN.{set, getD};
+ghost use Rattle.slaves.specs.Table.{none, indexOf};
+ghost use Rattle.slaves.specs.Answer.{enterRefusal, entered, foundOf, changeRefusal, changed, removeRefusal, removed};
+
+mod plan;
+
+// An entry of the table. It is free exactly if its address is 0.
+#[repr(C)]
+pub struct Slave {
+    pub address: u16,
+    pub product: u32,
+    pub device: u32,
+}
+
+// The identifiers of the slave that was found, or a refusal's number and zeros.
+#[repr(C)]
+pub struct Found {
+    pub number: u32,
+    pub product: u32,
+    pub device: u32,
+}
+
+// The entry at an index; past the end, zeros.
+fn entry_at(table: &[Slave], index: usize) -> Slave
+    ensures { λ r. ⌜ r ≡ getD (now (table .entry)) index none ⌝ }
+{
+    if table.len() <= index {
+        return Slave {
+            address: 0,
+            product: 0,
+            device: 0,
+        };
+    }
+    table[index]
+}
+
+// Puts an entry at an index. Past the end nothing changes: `set` leaves the list as it is.
+fn put(table: &mut [Slave], index: usize, entry: Slave)
+    ensures { λ _. ⌜ now (table .exit) ≡ set (now (table .entry)) index entry ⌝ }
+{
+    if table.len() <= index {
+        return;
+    }
+    table[index] = entry;
+}
+
+// The lowest index whose entry has the address, or the table's length.
+fn seek(table: &[Slave], address: u16) -> usize
+    ensures { λ r. ⌜ r ≡ indexOf address (now (table .entry)) ⌝ }
+{
+    let mut index = 0;
+    while index < table.len() {
+        let entry = entry_at(table, index);
+        if plan::has_address(entry, address) {
+            return index;
+        }
+        index = index + 1;
+    }
+    table.len()
+}
+
+// Enters a slave as the lowest free entry, and answers 0 or the refusal's number.
+pub fn enter(table: &mut [Slave], slave: Slave) -> u32
+    ensures { λ r. ⌜ (r ≡ enterRefusal slave (now (table .entry))) × (now (table .exit) ≡ entered slave (now (table .entry))) ⌝ }
+{
+    let at = seek(table, slave.address);
+    let free = seek(table, 0);
+    let plan = plan::enter(table.len(), at, free, slave);
+    put(table, plan.index, plan.entry);
+    plan.number
+}
+
+// Finds a slave's identifiers by its address.
+pub fn find(table: &[Slave], address: u16) -> Found
+    ensures { λ r. ⌜ r ≡ foundOf address (now (table .entry)) ⌝ }
+{
+    let at = seek(table, address);
+    let entry = entry_at(table, at);
+    plan::find(table.len(), at, entry, address)
+}
+
+// Changes a slave's address, and answers 0 or the refusal's number.
+pub fn change_address(table: &mut [Slave], from: u16, to: u16) -> u32
+    ensures { λ r. ⌜ (r ≡ changeRefusal from to (now (table .entry))) × (now (table .exit) ≡ changed from to (now (table .entry))) ⌝ }
+{
+    let at = seek(table, from);
+    let entry = entry_at(table, at);
+    let other = seek(table, to);
+    let plan = plan::change(table.len(), at, entry, other, from, to);
+    put(table, plan.index, plan.entry);
+    plan.number
+}
+
+// Removes a slave, whose entry is zeroed, and answers 0 or the refusal's number.
+pub fn remove(table: &mut [Slave], address: u16) -> u32
+    ensures { λ r. ⌜ (r ≡ removeRefusal address (now (table .entry))) × (now (table .exit) ≡ removed address (now (table .entry))) ⌝ }
+{
+    let at = seek(table, address);
+    let plan = plan::remove(table.len(), at, address);
+    put(table, plan.index, plan.entry);
+    plan.number
+}
