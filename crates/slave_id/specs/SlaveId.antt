@@ -76,10 +76,10 @@ response destination source product device =
 unfoldable pub writeRefusal : ℕ → ℕ → ℕ → ℕ → ℕ → ℕ
 writeRefusal destination source product device room =
     first (
-      (tooWide product device, 18)
-      ∷ (highWord destination || highWord source, 2)
-      ∷ tooShort room (streamOf (response destination source product device))
-      ∷ []
+    (tooWide product device, 18)
+    ∷ (highWord destination || highWord source, 2)
+    ∷ tooShort room (streamOf (response destination source product device))
+    ∷ []
     )
 
 -- what writing answers for an output of the given room

@@ -2,7 +2,7 @@
 ghost use mathlib.Core.Path.{_≡_};
 ghost use Prim.Native.Nat.{_+_, _*_};
 ghost use lib.ListN.{length};
-ghost use Rattle.slave_id.specs.SlaveId.{isTelegram, isResponse, slaveIdOf, tooWide, identifierBytes, payloadOf, writtenOf, outputAfter};
+ghost use Rattle.slave_id.specs.SlaveId.{isTelegram, isResponse, slaveIdOf, tooWide, payloadOf, writtenOf, outputAfter};
 use basics::Written;
 use record::Header;
 use stream::Kind;
