@@ -127,6 +127,26 @@ def encode(record, room):
     return (5, b"") if room < len(written(record)) else (0, written(record))
 
 
+# ── a slave ID response
+
+
+def read_slave_id(record):
+    """number, product, device, week, consecutive number"""
+    version, _, _, command, payload = record
+    if version not in TELEGRAMS or command != 0x23 or len(payload) != 7 or payload[6] != 0:
+        return 18, 0, 0, 0, 0
+    product, device = (int.from_bytes(payload[k : k + 3], "little") for k in (0, 3))
+    return 0, product, device, *divmod(device, 131072)
+
+
+def write_slave_id(destination, source, product, device, room):
+    """number, stream"""
+    if max(product, device) >= 2**24:
+        return 18, b""
+    payload = product.to_bytes(3, "little") + device.to_bytes(3, "little") + b"\0"
+    return encode((0x30, destination, source, 0x23, payload), room)
+
+
 # ── a recording
 
 

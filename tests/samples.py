@@ -189,6 +189,19 @@ def temperature(name, text, number):
     ask("t", name, two, number)
 
 
+def slave_id(name, record, *answer):
+    """`answer` is number, product, device, week and consecutive number"""
+    assert rules.read_slave_id(record) == answer, (name, rules.read_slave_id(record))
+    ask("k", name, record[4], *answer, header=record[:4])
+
+
+def write_slave_id(name, destination, source, product, device, room, number, stream=""):
+    """`stream` is what must be written"""
+    said, out = rules.write_slave_id(destination, source, product, device, room)
+    assert (said, out) == (number, bytes.fromhex(stream)), (name, said, out)
+    ask("K", name, struct.pack("<2I", product, device), said, len(out), hexed(out), "kept", first=room, header=(0, destination, source, 0))
+
+
 # ── the samples
 
 P1 = "AA 11 44 10 66 10 00 02 01 21 07 04 0F 00 00 65"
@@ -498,6 +511,41 @@ element("element-display-past-end", "03 0A 00 00" + "D1" * 8, 0, 0, 9)
 temperature("temperature-F6FF", "F6 FF", -10)
 temperature("temperature-0080", "00 80", -32768)
 temperature("temperature-FF7F", "FF 7F", 32767)
+
+# product 888888, week 17, consecutive number 116406 is T2
+DEVICE = 17 * 131072 + 116406
+T2_RECORD = rules.decode(bytes.fromhex(T2))
+REFUSED = (18, 0, 0, 0, 0)
+slave_id("slave-id-T2", T2_RECORD, 0, 888888, DEVICE, 17, 116406)
+slave_id("slave-id-version-31", (0x31, *T2_RECORD[1:]), 0, 888888, DEVICE, 17, 116406)
+slave_id("slave-id-others", (0x30, 0xFFFF, 0x0000, 0x23, T2_RECORD[4]), 0, 888888, DEVICE, 17, 116406)
+slave_id("slave-id-greatest", (0x30, 0, 0, 0x23, b"\xFF" * 6 + b"\0"), 0, 0xFFFFFF, 0xFFFFFF, 127, 131071)
+slave_id("slave-id-zero", (0x30, 0, 0, 0x23, bytes(7)), 0, 0, 0, 0, 0)
+slave_id("slave-id-week-1", (0x30, 0, 0, 0x23, bytes.fromhex("01 00 00 00 00 02 00")), 0, 1, 131072, 1, 0)
+slave_id("slave-id-serial", (0x30, 0, 0, 0x23, bytes.fromhex("00 01 00 FF FF 01 00")), 0, 256, 131071, 0, 131071)
+slave_id("slave-id-packet", (0x10, *T2_RECORD[1:]), *REFUSED)
+slave_id("slave-id-datagram", (0x20, *T2_RECORD[1:]), *REFUSED)
+slave_id("slave-id-version-32", (0x32, *T2_RECORD[1:]), *REFUSED)
+slave_id("slave-id-sub-address", rules.decode(bytes.fromhex(PRINTED["sub-address"])), *REFUSED)
+slave_id("slave-id-command-22", (0x30, 0, 0, 0x22, bytes(7)), *REFUSED)
+slave_id("slave-id-command-0123", (0x30, 0, 0, 0x0123, bytes(7)), *REFUSED)
+slave_id("slave-id-six", (0x30, 0, 0, 0x23, bytes(6)), *REFUSED)
+slave_id("slave-id-eight", (0x30, 0, 0, 0x23, bytes(8)), *REFUSED)
+slave_id("slave-id-none", (0x30, 0, 0, 0x23, b""), *REFUSED)
+slave_id("slave-id-seventh-1", (0x30, 0, 0, 0x23, bytes(6) + b"\1"), *REFUSED)
+slave_id("slave-id-seventh-80", (0x30, 0, 0, 0x23, bytes(6) + b"\x80"), *REFUSED)
+write_slave_id("write-slave-id-T2", 0x7731, 0x2010, 888888, DEVICE, 17, 0, T2)
+write_slave_id("write-slave-id-room-20", 0x7731, 0x2010, 888888, DEVICE, 20, 0, T2)
+write_slave_id("write-slave-id-room-16", 0x7731, 0x2010, 888888, DEVICE, 16, 5)
+write_slave_id("write-slave-id-room-0", 0x7731, 0x2010, 888888, DEVICE, 0, 5)
+write_slave_id("write-slave-id-greatest", 0x7F7F, 0x7F7F, 0xFFFFFF, 0xFFFFFF, 17, 0, "AA 7F 7F 7F 7F 30 23 30 7F 7F 7F 7F 7F 7F 00 3F 46")
+write_slave_id("write-slave-id-product-25", 0x7731, 0x2010, 0x1000000, DEVICE, 17, 18)
+write_slave_id("write-slave-id-device-25", 0x7731, 0x2010, 888888, 0x1000000, 17, 18)
+write_slave_id("write-slave-id-18-before-2", 0x8000, 0x2010, 0xFFFFFFFF, DEVICE, 17, 18)
+write_slave_id("write-slave-id-18-before-5", 0x7731, 0x2010, 888888, 0xFFFFFFFF, 0, 18)
+for name, destination, source in (("15", 0x8000, 0), ("7", 0x0080, 0), ("source-15", 0, 0x8000), ("source-7", 0, 0x0080)):
+    write_slave_id("write-slave-id-bit-" + name, destination, source, 888888, DEVICE, 17, 2)
+write_slave_id("write-slave-id-2-before-5", 0x8000, 0x2010, 888888, DEVICE, 16, 2)
 
 if len(sys.argv) > 2:  # each example's bytes, as document 000 prints them from offset 0 on
     tables, run = [], []

@@ -30,6 +30,12 @@ use Rattle.sections.specs.Answer.{sectionCount, sectionFound, sectionShown, ele
 use Rattle.sections.specs.Element.{temperatureOf}
 use Rattle.sections.specs.declared.Count.{Count}
 use Rattle.sections.specs.declared.Part.{Part}
+use Rattle.slave_id.specs.SlaveId.{slaveIdOf, writtenOf}
+use Rattle.slave_id.specs.SlaveId as SlaveIds
+use Rattle.slave_id.specs.declared.SlaveId.{SlaveId}
+use Rattle.slaves.specs.Answer.{enterRefusal, entered, foundOf, changeRefusal, changed, removeRefusal, removed}
+use Rattle.slaves.specs.declared.Slave.{Slave}
+use Rattle.slaves.specs.declared.Found as SlaveFound
 
 -- an output is given by its room
 pub data Question : Type 0 where
@@ -51,6 +57,12 @@ pub data Question : Type 0 where
   elements : Header → List ℕ → ℕ → Question
   element : Header → List ℕ → ℕ → ℕ → Question
   temperature : List ℕ → Question
+  readSlaveId : Record → Question
+  writeSlaveId : ℕ → ℕ → ℕ → ℕ → ℕ → Question
+  enterSlave : Slave → List Slave → Question
+  findSlave : ℕ → List Slave → Question
+  changeSlave : ℕ → ℕ → List Slave → Question
+  removeSlave : ℕ → List Slave → Question
   verdict : Verdict → Question
 
 -- an output before a call
@@ -98,6 +110,17 @@ countTold c = c .number ∷ c .count ∷ []
 abbrev partTold : Part → List ℕ
 partTold p = p .number ∷ p .start ∷ p .length ∷ []
 
+abbrev slaveIdTold : SlaveId → List ℕ
+slaveIdTold s = s .number ∷ s .product ∷ s .device ∷ s .week ∷ s .serial ∷ []
+
+abbrev slaveFoundTold : SlaveFound.Found → List ℕ
+slaveFoundTold f = f .number ∷ f .product ∷ f .device ∷ []
+
+-- every entry of a table
+abbrev pub tableTold : List Slave → List ℕ
+tableTold [] = []
+tableTold (e ∷ rest) = e .address ∷ e .product ∷ e .device ∷ tableTold rest
+
 abbrev pub answer : Question → List ℕ
 answer (checksum block) = checksumOf block ∷ []
 answer (extract block n) = septetsTold (extracted block n)
@@ -117,4 +140,11 @@ answer (section h payload k) = partTold (sectionFound h payload k) ++ sectionSho
 answer (elements h payload k) = countTold (elementCount h payload k)
 answer (element h payload k i) = partTold (elementFound h payload k i) ++ elementShown h payload k i
 answer (temperature bytes) = signedTold (temperatureOf bytes)
+answer (readSlaveId r) = slaveIdTold (slaveIdOf r)
+answer (writeSlaveId destination source product device room) =
+    writtenTold (writtenOf destination source product device room) ++ SlaveIds.outputAfter destination source product device (untouched room)
+answer (enterSlave s t) = enterRefusal s t ∷ tableTold (entered s t)
+answer (findSlave a t) = slaveFoundTold (foundOf a t)
+answer (changeSlave from to t) = changeRefusal from to t ∷ tableTold (changed from to t)
+answer (removeSlave a t) = removeRefusal a t ∷ tableTold (removed a t)
 answer (verdict v) = number v ∷ []

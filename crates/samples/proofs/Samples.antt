@@ -1,9 +1,11 @@
 -- The streams and records that the table asks of.
 use Prim.Native.Nat.{ℕ, zero, suc, _*_, _/_, _%_}
 use mathlib.Core.List.{List, [], _∷_, _++_}
-use lib.ListN.{take, replicate}
+use lib.ListN.{take, replicate, set}
 use Rattle.record.specs.Record.{Record}
 use Rattle.record.specs.declared.Header.{Header}
+use Rattle.slaves.specs.Table.{none}
+use Rattle.slaves.specs.declared.Slave.{Slave}
 
 -- the n bytes that a number's digits show
 abbrev pub bytes : ℕ → ℕ → List ℕ
@@ -92,3 +94,15 @@ eachType =
 -- one section of the smart display
 abbrev pub display : ℕ → List ℕ
 display frames = frames ∷ 0x0A ∷ 0x00 ∷ 0x00 ∷ replicate (4 * frames) 0xD1
+
+-- a slave, and a table with entries at some indices
+abbrev pub slave : ℕ → ℕ → ℕ → Slave
+slave address product device = record { address = address; product = product; device = device }
+
+abbrev pub slaves : List (ℕ × Slave) → List Slave
+slaves [] = replicate 32 none
+slaves ((index, entry) ∷ rest) = set (slaves rest) index entry
+
+-- a table with one address twice, and one that no slave can have
+abbrev pub twice : List Slave
+twice = slaves ((3, slave 0x2010 30 31) ∷ (5, slave 0x2011 50 51) ∷ (9, slave 0x2010 90 91) ∷ (31, slave 0x0001 310 311) ∷ [])

@@ -3,7 +3,7 @@
 use Prim.Native.Nat.{ℕ, _+_, _-_, _^_}
 use mathlib.Core.Path.{_≡_, refl}
 use mathlib.Core.List.{List, [], _∷_, _++_, map, flatten}
-use lib.ListN.{take, drop, replicate}
+use lib.ListN.{take, drop, replicate, set}
 use Rattle.basics.specs.Choice.{choose}
 use Rattle.basics.specs.Output.{roomRefusal}
 use Rattle.basics.specs.Words.{signed}
@@ -14,7 +14,7 @@ use Rattle.stream.specs.Layout.{kindOf, headerLength, frameWidth, frameCount, s
 use Rattle.stream.specs.Unused.{blockWidth, unusedFrames, unusedIn, countNonzero, unusedSeptets}
 use Rattle.stream.specs.Validation.{frameRule, headerRule, ruleAt, breach, faultAt, validationFrom}
 use Rattle.stream.specs.declared.Verdict.the-variants.{Whole, NoSync, HighByte, UnknownVersion, HeaderChecksum, FrameChecksum, Ended}
-use Rattle.record.specs.Record.{recordOf, unframed, commandIn, payloadIn, framed, framesOf, kindBytes, streamAs, streamWith, streamOf}
+use Rattle.record.specs.Record.{Record, recordOf, unframed, commandIn, payloadIn, framed, framesOf, kindBytes, streamAs, streamWith, streamOf}
 use Rattle.record.specs.Encode.{unwritable}
 use Rattle.record.specs.Encode as Encodings
 use Rattle.recording.specs.Recording.{deliveriesFrom}
@@ -29,19 +29,26 @@ use Rattle.diagnosis.specs.Fault.{wantedAt, faultsFrom, nextFault}
 use Rattle.sections.specs.Section.{cut, someShort}
 use Rattle.sections.specs.Element.{elementSize}
 use Rattle.sections.specs.Answer.{notBlock}
-use Rattle.samples.proofs.Questions.{Question, checksum, extract, inject, validate, read, carry, encode, value, next, receive, reset, fault, normalize, sections, section, elements, element, temperature, verdict, untouched, answer}
-use Rattle.samples.proofs.Samples.{bytes, recorded, p1, d1, t1, t2, p1Unused, d1Unused, threeUnused, threeClear, t2Septet, twoFrames, sixTopBits, threeFrames, threeFramesPayload, damaged, packet, datagram, telegram, blockHeader, example, eachType, display}
+use Rattle.slave_id.specs.SlaveId.{isResponse, slaveIdOf, tooWide, writeRefusal}
+use Rattle.slaves.specs.Table.{none, indexOf}
+use Rattle.slaves.specs.Answer.{notSlave, isAbsent, isTaken, enterRefusal, foundBy, changeRefusal, removeRefusal}
+use Rattle.slaves.specs.declared.Slave.{Slave}
+use Rattle.samples.proofs.Questions.{Question, checksum, extract, inject, validate, read, carry, encode, value, next, receive, reset, fault, normalize, sections, section, elements, element, temperature, readSlaveId, writeSlaveId, enterSlave, findSlave, changeSlave, removeSlave, verdict, tableTold, untouched, answer}
+use Rattle.samples.proofs.Samples.{bytes, recorded, p1, d1, t1, t2, p1Unused, d1Unused, threeUnused, threeClear, t2Septet, twoFrames, sixTopBits, threeFrames, threeFramesPayload, damaged, packet, datagram, telegram, blockHeader, example, eachType, display, slave, slaves, twice}
 
 -- a question and the answer that the papers give
 abbrev Row : Type 0
 Row = Question × List ℕ
 
--- refused septets; a refused writing; no next record, and any number with it
+-- refused septets; a refused writing; a refused slave ID; no next record, and any number with it
 abbrev noSeptets : List ℕ
 noSeptets = 7 ∷ replicate 9 0
 
 abbrev refused : ℕ → ℕ → List ℕ
 refused number room = number ∷ 0 ∷ untouched room
+
+abbrev noSlaveId : List ℕ
+noSlaveId = 18 ∷ replicate 4 0
 
 abbrev noRecord : ℕ → ℕ → List ℕ
 noRecord number room = number ∷ (replicate 8 0 ++ untouched room)
@@ -316,6 +323,98 @@ blockSections =
     ∷ (temperature (0xFF ∷ 0x7F ∷ []), 0 ∷ 32767 ∷ [])
     ∷ []
 
+-- T2's record with another version, command or payload
+abbrev response : ℕ → ℕ → List ℕ → Record
+response version command payload = recorded version 0x7731 0x2010 command payload
+
+abbrev slaveIds : List Row
+slaveIds =
+    (readSlaveId (recordOf t2), 0 ∷ 888888 ∷ 2344630 ∷ 17 ∷ 116406 ∷ [])
+    ∷ (readSlaveId (response 0x31 0x23 (bytes 7 0xFFFFFFFF_FFFF00)), 0 ∷ 0xFFFFFF ∷ 0xFFFFFF ∷ 127 ∷ 131071 ∷ [])
+    ∷ (readSlaveId (response 0x30 0x23 (bytes 7 0x00010000_000200)), 0 ∷ 256 ∷ 131072 ∷ 1 ∷ 0 ∷ [])
+    ∷ (readSlaveId (response 0x30 0x23 (bytes 7 0x010000FF_FF0100)), 0 ∷ 1 ∷ 131071 ∷ 0 ∷ 131071 ∷ [])
+    ∷ (readSlaveId (response 0x10 0x23 (replicate 7 0)), noSlaveId)
+    ∷ (readSlaveId (response 0x20 0x23 (replicate 7 0)), noSlaveId)
+    ∷ (readSlaveId (response 0x32 0x23 (replicate 7 0)), noSlaveId)
+    ∷ (readSlaveId (response 0x30 0x22 (replicate 7 0)), noSlaveId)
+    ∷ (readSlaveId (response 0x30 0x24 (replicate 7 0)), noSlaveId)
+    ∷ (readSlaveId (response 0x30 0x123 (replicate 7 0)), noSlaveId)
+    ∷ (readSlaveId (response 0x30 0x23 (replicate 6 0)), noSlaveId)
+    ∷ (readSlaveId (response 0x30 0x23 (replicate 8 0)), noSlaveId)
+    ∷ (readSlaveId (response 0x30 0x23 (bytes 7 0x01)), noSlaveId)
+    ∷ (writeSlaveId 0x7731 0x2010 888888 2344630 18, 0 ∷ 17 ∷ (t2 ++ untouched 1))
+    ∷ (writeSlaveId 0x7731 0x2010 888888 2344630 17, 0 ∷ 17 ∷ t2)
+    ∷ (writeSlaveId 0x7731 0x2010 888888 2344630 16, refused 5 16)
+    ∷ (writeSlaveId 0x7F7F 0x7F7F 0xFFFFFF 0xFFFFFF 17, 0 ∷ 17 ∷ bytes 17 0xAA7F7F7F_7F302330_7F7F7F7F_7F7F003F_46)
+    ∷ (writeSlaveId 0x7731 0x2010 0x1000000 2344630 18, refused 18 18)
+    ∷ (writeSlaveId 0x7731 0x2010 888888 0x1000000 18, refused 18 18)
+    ∷ (writeSlaveId 0x80 0x2010 0x1000000 2344630 18, refused 18 18)
+    ∷ (writeSlaveId 0x7731 0x2010 0x1000000 2344630 16, refused 18 16)
+    ∷ (writeSlaveId 0x80 0x2010 888888 2344630 18, refused 2 18)
+    ∷ (writeSlaveId 0x8000 0x2010 888888 2344630 16, refused 2 16)
+    ∷ (writeSlaveId 0x7731 0x80 888888 2344630 18, refused 2 18)
+    ∷ (writeSlaveId 0x7731 0x8000 888888 2344630 18, refused 2 18)
+    ∷ []
+
+-- an operation that leaves the table as it was
+abbrev unchanged : ℕ → List Slave → List ℕ
+unchanged number t = number ∷ tableTold t
+
+abbrev full : List Slave
+full = replicate 32 (slave 0x2010 1 2)
+
+abbrev short : List Slave
+short = replicate 31 none
+
+abbrev long : List Slave
+long = replicate 33 (slave 0x2010 1 2)
+
+abbrev slaveTables : List Row
+slaveTables =
+    (enterSlave (slave 0x2010 0xFFFFFF 0xFFFFFF) (slaves []), 0 ∷ tableTold (slaves ((0, slave 0x2010 0xFFFFFF 0xFFFFFF) ∷ [])))
+    ∷ (enterSlave (slave 0x2F7F 1 2) (slaves ((0, slave 0x2010 3 4) ∷ (2, slave 0x2011 5 6) ∷ [])), 0 ∷ tableTold (slaves ((0, slave 0x2010 3 4) ∷ (1, slave 0x2F7F 1 2) ∷ (2, slave 0x2011 5 6) ∷ [])))
+    ∷ (enterSlave (slave 0x2100 1 2) (set full 31 (slave 0 7 8)), 0 ∷ tableTold (set full 31 (slave 0x2100 1 2)))
+    ∷ (enterSlave (slave 0x200F 0x1000000 2) short, unchanged 24 short)
+    ∷ (enterSlave (slave 0x200F 1 2) long, unchanged 24 long)
+    ∷ (enterSlave (slave 0x2010 1 2) [], unchanged 24 [])
+    ∷ (enterSlave (slave 0x200F 0x1000000 2) full, unchanged 14 full)
+    ∷ (enterSlave (slave 0x1010 1 2) (slaves []), unchanged 14 (slaves []))
+    ∷ (enterSlave (slave 0x3010 1 2) (slaves []), unchanged 14 (slaves []))
+    ∷ (enterSlave (slave 0x6010 1 2) (slaves []), unchanged 14 (slaves []))
+    ∷ (enterSlave (slave 0xA010 1 2) (slaves []), unchanged 14 (slaves []))
+    ∷ (enterSlave (slave 0x2090 1 2) (slaves []), unchanged 14 (slaves []))
+    ∷ (enterSlave (slave 0 1 2) (slaves []), unchanged 14 (slaves []))
+    ∷ (enterSlave (slave 0x2010 0x1000000 2) full, unchanged 18 full)
+    ∷ (enterSlave (slave 0x2010 1 0x1000000) full, unchanged 18 full)
+    ∷ (enterSlave (slave 0x2010 1 2) full, unchanged 15 full)
+    ∷ (enterSlave (slave 0x2011 1 2) twice, unchanged 15 twice)
+    ∷ (enterSlave (slave 0x2011 1 2) full, unchanged 16 full)
+    ∷ (findSlave 0x2010 twice, 0 ∷ 30 ∷ 31 ∷ [])
+    ∷ (findSlave 0x0001 twice, 0 ∷ 310 ∷ 311 ∷ [])
+    ∷ (findSlave 0x2012 twice, 17 ∷ 0 ∷ 0 ∷ [])
+    ∷ (findSlave 0 (slaves ((4, slave 0 7 8) ∷ [])), 17 ∷ 0 ∷ 0 ∷ [])
+    ∷ (findSlave 0x2010 long, 24 ∷ 0 ∷ 0 ∷ [])
+    ∷ (findSlave 0x2010 short, 24 ∷ 0 ∷ 0 ∷ [])
+    ∷ (changeSlave 0x2010 0x2F70 twice, 0 ∷ tableTold (set twice 3 (slave 0x2F70 30 31)))
+    ∷ (changeSlave 0x0001 0x2012 twice, 0 ∷ tableTold (set twice 31 (slave 0x2012 310 311)))
+    ∷ (changeSlave 0x2010 0x2010 twice, unchanged 0 twice)
+    ∷ (changeSlave 0x0001 0x0001 twice, unchanged 14 twice)
+    ∷ (changeSlave 0x2012 0x2080 twice, unchanged 14 twice)
+    ∷ (changeSlave 0x2012 0x2011 twice, unchanged 17 twice)
+    ∷ (changeSlave 0x2012 0x2012 twice, unchanged 17 twice)
+    ∷ (changeSlave 0 0x2012 twice, unchanged 17 twice)
+    ∷ (changeSlave 0x2010 0x2011 twice, unchanged 15 twice)
+    ∷ (changeSlave 0x2011 0x2010 twice, unchanged 15 twice)
+    ∷ (changeSlave 0x2010 0x2080 long, unchanged 24 long)
+    ∷ (changeSlave 0x2010 0x2080 short, unchanged 24 short)
+    ∷ (removeSlave 0x2010 twice, 0 ∷ tableTold (set twice 3 (slave 0 0 0)))
+    ∷ (removeSlave 0x0001 twice, 0 ∷ tableTold (set twice 31 (slave 0 0 0)))
+    ∷ (removeSlave 0x2012 twice, unchanged 17 twice)
+    ∷ (removeSlave 0 (slaves ((4, slave 0 7 8) ∷ [])), unchanged 17 (slaves ((4, slave 0 7 8) ∷ [])))
+    ∷ (removeSlave 0x2010 long, unchanged 24 long)
+    ∷ (removeSlave 0x2010 short, unchanged 24 short)
+    ∷ []
+
 -- V0 to V7, of which V5 is never given
 abbrev verdictNumbers : List Row
 verdictNumbers =
@@ -329,8 +428,8 @@ verdictNumbers =
     ∷ []
 
 abbrev table : List Row
-table = starred ++ (septets ++ (verdicts ++ (records ++ (recordings ++ (receptions ++ (faults ++ (blockSections ++ verdictNumbers)))))))
+table = starred ++ (septets ++ (verdicts ++ (records ++ (recordings ++ (receptions ++ (faults ++ (blockSections ++ (slaveIds ++ (slaveTables ++ verdictNumbers)))))))))
 
 samples : map (λ (row : Row). answer (row .0)) table ≡ map (λ (row : Row). row .1) table
-unfolding choose signed checksumFrom septetOf lowBits withTopBits anyHigh kindOf headerLength frameWidth frameCount streamLength payloadLength frameRule headerRule ruleAt breach faultAt blockWidth unusedFrames unusedIn countNonzero unusedSeptets validationFrom recordOf unframed commandIn payloadIn framed framesOf kindBytes streamAs streamWith streamOf unwritable Encodings.refusal deliveriesFrom Nexts.refusal streams roomRefusal beginning extended kept outcomeOf heldIn Receptions.refusal wantedAt faultsFrom nextFault cut someShort elementSize notBlock flatten
+unfolding choose signed checksumFrom septetOf lowBits withTopBits anyHigh kindOf headerLength frameWidth frameCount streamLength payloadLength frameRule headerRule ruleAt breach faultAt blockWidth unusedFrames unusedIn countNonzero unusedSeptets validationFrom recordOf unframed commandIn payloadIn framed framesOf kindBytes streamAs streamWith streamOf unwritable Encodings.refusal deliveriesFrom Nexts.refusal streams roomRefusal beginning extended kept outcomeOf heldIn Receptions.refusal wantedAt faultsFrom nextFault cut someShort elementSize notBlock flatten isResponse slaveIdOf tooWide writeRefusal indexOf notSlave isAbsent isTaken enterRefusal foundBy changeRefusal removeRefusal
 samples = refl

@@ -199,3 +199,27 @@ pub fn place(answer: sections::Part, payload: &[u8]) {
 pub fn temperature(bytes: &[u8]) {
     field::signed(sections::temperature([part::byte(bytes, 0), part::byte(bytes, 1)]) as i32);
 }
+
+// The number, the identifiers, the week and the consecutive number.
+pub fn slave_id(answer: slave_id::SlaveId) {
+    field::number(answer.number as u64);
+    field::number(answer.product as u64);
+    field::number(answer.device as u64);
+    field::number(answer.week as u64);
+    field::number(answer.serial as u64);
+}
+
+// Two identifiers, of four bytes each.
+pub fn write_slave_id(header: Header, identifiers: &[u8], room: usize) {
+    let mut out = UNTOUCHED;
+    let product = part::long(identifiers, 0);
+    let device = part::long(identifiers, 4);
+    let answer = slave_id::write(
+        header.destination,
+        header.source,
+        product,
+        device,
+        part::first_mut(&mut out, room),
+    );
+    written(answer, &out);
+}

@@ -43,6 +43,8 @@ fn fields(question: &[u8], bytes: &[u8]) {
         b'm' => answer::count(sections::element_count(header, bytes, n)),
         b'M' => answer::place(sections::find_element(header, bytes, n, m), bytes),
         b't' => answer::temperature(bytes),
+        b'k' => answer::slave_id(slave_id::read(header, bytes)),
+        b'K' => answer::write_slave_id(header, bytes, n),
         _ => field::say(b"unknown"),
     }
 }

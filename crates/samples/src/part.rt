@@ -26,6 +26,12 @@ pub fn word(s: &[u8], at: usize) -> u16 {
     (byte(rest, 0) as u16) + 256 * (byte(rest, 1) as u16)
 }
 
+// Four bytes, the low one first.
+pub fn long(s: &[u8], at: usize) -> u32 {
+    let rest = behind(s, at);
+    (word(rest, 0) as u32) + 65536 * (word(rest, 2) as u32)
+}
+
 // The header in a head.
 pub fn header(s: &[u8]) -> Header {
     Header {
