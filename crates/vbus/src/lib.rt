@@ -4,5 +4,6 @@ mod block_packets;
 mod receivers;
 mod recordings;
 mod records;
-mod slaves;
+mod slave_ids;
+mod slave_tables;
 mod streams;

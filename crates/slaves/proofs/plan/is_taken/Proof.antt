@@ -1,0 +1,13 @@
+-- `plan::is_taken` meets its contract: the two tests of 15, one by one. Assumes nothing.
+use Rattle.slaves.proofs.Plans.{taken-same, taken-other}
+use Rattle.slaves.proofs.plan.is_taken.Statement.{statement}
+use Rattle.slaves.proofs.plan.is_taken.Tie as tie
+
+returns : tie.Need-returns
+returns c = search taken-same
+
+returns-2 : tie.Need-returns-2
+returns-2 c = search taken-other
+
+pub is-taken-spec : {M : Type 1} → statement M
+is-taken-spec = tie.close (tie.spec returns returns-2)
