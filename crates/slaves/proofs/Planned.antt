@@ -10,7 +10,7 @@ use borrow.Author.Tests.{eqb-true}
 use Rattle.basics.specs.Choice.{choose}
 use Rattle.slaves.specs.Table.{none, indexOf}
 use Rattle.slaves.specs.Answer.{tableWith, enterRefusal, entered, foundBy, foundOf, entryOf, changeRefusal, readdressed, changed, removeRefusal, removed}
-use Rattle.slaves.specs.Stage.{refusedPlan, planBy, enterPlan, changePlan, removePlan}
+use Rattle.slaves.specs.Stage.{planBy, enterPlan, changePlan, removePlan}
 use Rattle.slaves.specs.declared.Slave.{Slave}
 use Rattle.slaves.specs.declared.Found.{Found}
 use Rattle.slaves.specs.declared.plan.Plan.{Plan}
@@ -22,7 +22,7 @@ module _ (refusal index : ℕ) (entry : Slave) (table : List Slave) (p : Plan) w
   CarriedOut none-refused = (p .number ≡ refusal) × (set table (p .index) (p .entry) ≡ choose none-refused (set table index entry) table)
 
   by-test : (none-refused : Bool) → eqb refusal 0 ≡ none-refused
-      → p ≡ choose none-refused (record { number = 0; index = index; entry = entry }) (refusedPlan (length table) refusal) → CarriedOut none-refused
+      → p ≡ choose none-refused (record { number = 0; index = index; entry = entry }) (record { number = refusal; index = length table; entry = none }) → CarriedOut none-refused
   unfolding choose
   by-test true e is =
       (ap (λ (x : Plan). x .number) is ∙ sym (eqb-true refusal 0 e), ap₂ (set table) (ap (λ (x : Plan). x .index) is) (ap (λ (x : Plan). x .entry) is))
@@ -44,7 +44,7 @@ module _ (table : List Slave) {p : Plan} {after : List Slave} (put : after ≡ s
 pub enter-meets : {at free : ℕ} {p : Plan} {after : List Slave} (slave : Slave) (table : List Slave)
     → at ≡ indexOf (slave .address) table → free ≡ indexOf 0 table → p ≡ enterPlan (length table) at free slave
     → after ≡ set table (p .index) (p .entry) → (p .number ≡ enterRefusal slave table) × (after ≡ entered slave table)
-unfolding enterPlan enterRefusal
+unfolding enterRefusal
 enter-meets slave table at-is free-is p-is put =
     done table put (enterRefusal slave table) (indexOf 0 table) slave (p-is ∙ ap₂ (λ (at free : ℕ). enterPlan (length table) at free slave) at-is free-is)
 
@@ -60,7 +60,7 @@ find-meets address table at-is entry-is r-is =
 pub change-meets : {at other : ℕ} {entry : Slave} {p : Plan} {after : List Slave} (from to : ℕ) (table : List Slave)
     → at ≡ indexOf from table → entry ≡ getD table at none → other ≡ indexOf to table → p ≡ changePlan (length table) at entry other from to
     → after ≡ set table (p .index) (p .entry) → (p .number ≡ changeRefusal from to table) × (after ≡ changed from to table)
-unfolding changePlan changeRefusal
+unfolding changeRefusal
 change-meets from to table at-is entry-is other-is p-is put =
     let entry-seen = seen from table at-is entry-is in
     done table put (changeRefusal from to table) (indexOf from table) (readdressed to (entryOf from table))
@@ -69,6 +69,6 @@ change-meets from to table at-is entry-is other-is p-is put =
 pub remove-meets : {at : ℕ} {p : Plan} {after : List Slave} (address : ℕ) (table : List Slave)
     → at ≡ indexOf address table → p ≡ removePlan (length table) at address
     → after ≡ set table (p .index) (p .entry) → (p .number ≡ removeRefusal address table) × (after ≡ removed address table)
-unfolding removePlan removeRefusal
+unfolding removeRefusal
 remove-meets address table at-is p-is put =
     done table put (removeRefusal address table) (indexOf address table) none (p-is ∙ ap (λ (at : ℕ). removePlan (length table) at address) at-is)

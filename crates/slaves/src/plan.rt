@@ -3,8 +3,10 @@
 // nothing changes.
 ghost use mathlib.Core.Path.{_≡_};
 ghost use lib.Dec.{eqb};
-ghost use Rattle.slaves.specs.Answer.{notSlave, isAbsent, isTaken, foundBy};
-ghost use Rattle.slaves.specs.Stage.{refusedPlan, enterPlan, changePlan, removePlan};
+ghost use Rattle.basics.specs.Choice.{first};
+ghost use Rattle.slaves.specs.Answer.{notSlave, isAbsent, isTaken, enterLines, findLines, foundBy, changeLines};
+ghost use Rattle.slaves.specs.Table;
+ghost use Rattle.slaves.specs.Stage.{planBy, enterPlan, changePlan, removePlan};
 use crate::Found;
 use crate::Slave;
 
@@ -36,52 +38,12 @@ fn not_slave(address: u16) -> bool
     address / 16 % 256 == 0
 }
 
-// Nothing is changed.
-fn refused(size: usize, number: u32) -> Plan
-    ensures { λ r. ⌜ r ≡ refusedPlan size number ⌝ }
+// A free entry.
+fn none() -> Slave
+    ensures { λ r. ⌜ r ≡ Table.none ⌝ }
 {
-    Plan {
-        number,
-        index: size,
-        entry: Slave {
-            address: 0,
-            product: 0,
-            device: 0,
-        },
-    }
-}
-
-// The slave in place of the free entry.
-pub fn enter(size: usize, at: usize, free: usize, slave: Slave) -> Plan
-    ensures { λ r. ⌜ r ≡ enterPlan size at free slave ⌝ }
-{
-    if size != 32 {
-        return refused(size, 24);
-    }
-    if not_slave(slave.address) {
-        return refused(size, 14);
-    }
-    if slave_id::too_wide(slave.product, slave.device) {
-        return refused(size, 18);
-    }
-    if at < size {
-        return refused(size, 15);
-    }
-    if size <= free {
-        return refused(size, 16);
-    }
-    Plan {
-        number: 0,
-        index: free,
-        entry: slave,
-    }
-}
-
-fn not_found(number: u32) -> Found
-    ensures { λ r. ⌜ r ≡ record { number = number; product = 0; device = 0 } ⌝ }
-{
-    Found {
-        number,
+    Slave {
+        address: 0,
         product: 0,
         device: 0,
     }
@@ -97,24 +59,7 @@ fn is_absent(size: usize, at: usize, address: u16) -> bool
     size <= at
 }
 
-// The identifiers of the entry where the address stands.
-pub fn find(size: usize, at: usize, entry: Slave, address: u16) -> Found
-    ensures { λ r. ⌜ r ≡ foundBy size at entry address ⌝ }
-{
-    if size != 32 {
-        return not_found(24);
-    }
-    if is_absent(size, at, address) {
-        return not_found(17);
-    }
-    Found {
-        number: 0,
-        product: entry.product,
-        device: entry.device,
-    }
-}
-
-// Refusal 15 for the new address: it is another one, and stands somewhere.
+// Refusal 15 for a new address: it is another one, and stands somewhere.
 fn is_taken(size: usize, other: usize, from: u16, to: u16) -> bool
     ensures { λ r. ⌜ r ≡ isTaken size other from to ⌝ }
 {
@@ -124,50 +69,116 @@ fn is_taken(size: usize, other: usize, from: u16, to: u16) -> bool
     other < size
 }
 
+fn enter_refusal(size: usize, at: usize, free: usize, slave: Slave) -> u32
+    ensures { λ r. ⌜ r ≡ first (enterLines size at free slave) ⌝ }
+{
+    if size != 32 {
+        return 24;
+    }
+    if not_slave(slave.address) {
+        return 14;
+    }
+    if slave_id::too_wide(slave.product, slave.device) {
+        return 18;
+    }
+    if at < size {
+        return 15;
+    }
+    if size <= free {
+        return 16;
+    }
+    0
+}
+
+fn find_refusal(size: usize, at: usize, address: u16) -> u32
+    ensures { λ r. ⌜ r ≡ first (findLines size at address) ⌝ }
+{
+    if size != 32 {
+        return 24;
+    }
+    if is_absent(size, at, address) {
+        return 17;
+    }
+    0
+}
+
+fn change_refusal(size: usize, at: usize, other: usize, from: u16, to: u16) -> u32
+    ensures { λ r. ⌜ r ≡ first (changeLines size at other from to) ⌝ }
+{
+    if size != 32 {
+        return 24;
+    }
+    if not_slave(to) {
+        return 14;
+    }
+    if is_absent(size, at, from) {
+        return 17;
+    }
+    if is_taken(size, other, from, to) {
+        return 15;
+    }
+    0
+}
+
+// An entry to be put at an index or, refused, nothing.
+fn planned(number: u32, size: usize, index: usize, entry: Slave) -> Plan
+    ensures { λ r. ⌜ r ≡ planBy number size index entry ⌝ }
+{
+    if number != 0 {
+        return Plan {
+            number,
+            index: size,
+            entry: none(),
+        };
+    }
+    Plan {
+        number: 0,
+        index,
+        entry,
+    }
+}
+
+// The slave in place of the free entry.
+pub fn enter(size: usize, at: usize, free: usize, slave: Slave) -> Plan
+    ensures { λ r. ⌜ r ≡ enterPlan size at free slave ⌝ }
+{
+    planned(enter_refusal(size, at, free, slave), size, free, slave)
+}
+
+// The identifiers of the entry where the address stands.
+pub fn find(size: usize, at: usize, entry: Slave, address: u16) -> Found
+    ensures { λ r. ⌜ r ≡ foundBy size at entry address ⌝ }
+{
+    let number = find_refusal(size, at, address);
+    if number != 0 {
+        return Found {
+            number,
+            product: 0,
+            device: 0,
+        };
+    }
+    Found {
+        number: 0,
+        product: entry.product,
+        device: entry.device,
+    }
+}
+
 // The entry where the old address stands, with the new one.
 pub fn change(size: usize, at: usize, entry: Slave, other: usize, from: u16, to: u16) -> Plan
     ensures { λ r. ⌜ r ≡ changePlan size at entry other from to ⌝ }
 {
-    if size != 32 {
-        return refused(size, 24);
-    }
-    if not_slave(to) {
-        return refused(size, 14);
-    }
-    if is_absent(size, at, from) {
-        return refused(size, 17);
-    }
-    if is_taken(size, other, from, to) {
-        return refused(size, 15);
-    }
-    Plan {
-        number: 0,
-        index: at,
-        entry: Slave {
-            address: to,
-            product: entry.product,
-            device: entry.device,
-        },
-    }
+    let changed = Slave {
+        address: to,
+        product: entry.product,
+        device: entry.device,
+    };
+    planned(change_refusal(size, at, other, from, to), size, at, changed)
 }
 
-// Zeros where the address stands.
+// A free entry where the address stands.
 pub fn remove(size: usize, at: usize, address: u16) -> Plan
     ensures { λ r. ⌜ r ≡ removePlan size at address ⌝ }
 {
-    if size != 32 {
-        return refused(size, 24);
-    }
-    if is_absent(size, at, address) {
-        return refused(size, 17);
-    }
-    Plan {
-        number: 0,
-        index: at,
-        entry: Slave {
-            address: 0,
-            product: 0,
-            device: 0,
-        },
-    }
+    planned(find_refusal(size, at, address), size, at, none())
 }

@@ -1,13 +1,14 @@
--- `plan::is_absent` meets its contract: the two tests of 17, one by one. Assumes nothing.
+-- `plan::is_absent` meets its contract: the two tests of 17. Assumes nothing.
+use native.Mathlib.Omega.{arith}
 use Rattle.slaves.proofs.Plans.{absent-zero, absent-nowhere}
 use Rattle.slaves.proofs.plan.is_absent.Statement.{statement}
 use Rattle.slaves.proofs.plan.is_absent.Tie as tie
 
 returns : tie.Need-returns
-returns c = search absent-zero
+returns c = absent-zero _ _ _ (omega arith)
 
 returns-2 : tie.Need-returns-2
-returns-2 c = search absent-nowhere
+returns-2 c = absent-nowhere _ _ _ (omega arith)
 
 pub is-absent-spec : {M : Type 1} → statement M
 is-absent-spec = tie.close (tie.spec returns returns-2)

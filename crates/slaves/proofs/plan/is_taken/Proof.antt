@@ -1,13 +1,14 @@
--- `plan::is_taken` meets its contract: the two tests of 15, one by one. Assumes nothing.
+-- `plan::is_taken` meets its contract: the two tests of 15. Assumes nothing.
+use native.Mathlib.Omega.{arith}
 use Rattle.slaves.proofs.Plans.{taken-same, taken-other}
 use Rattle.slaves.proofs.plan.is_taken.Statement.{statement}
 use Rattle.slaves.proofs.plan.is_taken.Tie as tie
 
 returns : tie.Need-returns
-returns c = search taken-same
+returns c = taken-same _ _ _ _ (omega arith)
 
 returns-2 : tie.Need-returns-2
-returns-2 c = search taken-other
+returns-2 c = taken-other _ _ _ _ (omega arith)
 
 pub is-taken-spec : {M : Type 1} → statement M
 is-taken-spec = tie.close (tie.spec returns returns-2)

@@ -1,28 +1,25 @@
--- `plan::remove` meets its contract: the lines of removing, one by one. Assumes nothing.
-use Rattle.slaves.proofs.Plans.{remove-24, remove-17, remove-0}
+-- `plan::remove` meets its contract: a plan by the refusal of finding. Assumes nothing.
+use Prim.Native.Nat.{ℕ}
+use mathlib.Core.Path.{ap₂, _∙_}
+use Rattle.slaves.specs.Stage.{planBy}
+use Rattle.slaves.specs.declared.Slave.{Slave}
 use borrow.Author.Needs.{needs}
 use Rattle.slaves.proofs.plan.remove.Statement.{statement}
 use Rattle.slaves.proofs.plan.remove.Tie as tie
 
-refused-requires : tie.Need-refused-requires
-refused-requires c κs = search needs
+find-refusal-requires : tie.Need-find-refusal-requires
+find-refusal-requires c κs = search needs
+
+none-requires : tie.Need-none-requires
+none-requires c κs = search needs
+
+planned-requires : tie.Need-planned-requires
+planned-requires c κs = search needs
 
 returns : tie.Need-returns
-returns c = search remove-24
-
-is-absent-requires : tie.Need-is-absent-requires
-is-absent-requires c κs = search needs
-
-refused-requires-2 : tie.Need-refused-requires-2
-refused-requires-2 c κs = search needs
-
-returns-2 : tie.Need-returns-2
-returns-2 c = search remove-17
-
-returns-3 : tie.Need-returns-3
-returns-3 c = search remove-0
+returns c =
+    let a = c .before .before .before .args in
+    c .planned .ensures ∙ ap₂ (λ (number : ℕ) (entry : Slave). planBy number (a .size) (a .at) entry) (c .before .before .find-refusal .ensures) (c .before .none .ensures)
 
 pub remove-spec : {M : Type 1} → statement M
-remove-spec =
-    tie.close
-    (tie.spec refused-requires returns is-absent-requires refused-requires-2 returns-2 returns-3)
+remove-spec = tie.close (tie.spec find-refusal-requires none-requires planned-requires returns)
