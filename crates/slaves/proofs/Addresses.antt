@@ -5,7 +5,7 @@ use native.Mathlib.Nat.{mod-eq-of-lt, mul-add-mod-self-right}
 use lib.Arith.{digits-mod}
 use mathlib.Core.Path.{_≡_, refl, sym, ap, _∙_}
 use mathlib.Core.Logic.{_≢_, _↔_}
-use mathlib.Core.Bool.{Bool, true, false, not, _&&_, _||_}
+use mathlib.Core.Bool.{Bool, true, false, not, _&&_, _||_, not-eq-not}
 use lib.Dec.{eqb, ltb}
 use borrow.Author.Tests.{eq-eqb, ne-eqb, eqb-true, eqb-false, not-false}
 use Rattle.basics.specs.Choice.{choose}
@@ -35,6 +35,14 @@ slave-exactly a = (
       },
   λ s. rw (eq-eqb _ _ (s .class), ne-eqb _ _ (s .bit-7), ne-eqb _ _ (s .bit-15), ne-eqb _ _ (s .number)),
 )
+
+pub no-slave : (a : ℕ) → (SlaveAddress a → ⊥) → true ≡ notSlave a
+no-slave a never = sym (not-eq-not .0 (λ e. never (slave-exactly a .0 e)))
+
+-- behind the other tests bits 4 to 11 are left
+pub number-decides : (a : ℕ) → a / 2 ^ 12 % 2 ^ 3 ≡ 2 → a / 2 ^ 7 % 2 ≢ 1 → a / 2 ^ 15 % 2 ≢ 1 → eqb (a / 2 ^ 4 % 2 ^ 8) 0 ≡ notSlave a
+unfolding notSlave
+number-decides a class bit-7 bit-15 = rw (eq-eqb _ _ class, ne-eqb _ _ bit-7, ne-eqb _ _ bit-15)
 
 -- 0, the free entries' address, is none
 pub slave-nonzero : (a : ℕ) → SlaveAddress a → a ≢ 0

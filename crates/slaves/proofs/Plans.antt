@@ -1,9 +1,9 @@
 -- Each answer of plan.rt's functions, by the tests that led to it.
-use Prim.Native.Nat.{ℕ, _/_, _%_, _≤_, _<_}
+use Prim.Native.Nat.{ℕ, _≤_, _<_}
 use mathlib.Core.Path.{_≡_}
 use mathlib.Core.Logic.{_≢_}
 use mathlib.Core.Bool.{true, false}
-use lib.Dec.{eqb, leb, ltb}
+use lib.Dec.{leb, ltb}
 use borrow.Author.Tests.{eq-eqb, ne-eqb, le-leb, lt-leb, lt-ltb, le-ltb}
 use Rattle.basics.specs.Choice.{choose, first}
 use Rattle.slave_id.specs.SlaveId.{tooWide}
@@ -11,25 +11,6 @@ use Rattle.slaves.specs.Answer.{notSlave, isAbsent, isTaken, enterLines,
 use Rattle.slaves.specs.declared.Slave.{Slave}
 
 -- ── the tests
-
-module _ (address : ℕ) where
-  pub other-class : address / 4096 % 8 ≢ 2 → true ≡ notSlave address
-  unfolding notSlave
-  other-class n = rw (ne-eqb (address / 4096 % 8) 2 n)
-
-  module _ (class : address / 4096 % 8 ≡ 2) where
-    pub bit-7 : address / 128 % 2 ≡ 1 → true ≡ notSlave address
-    unfolding notSlave
-    bit-7 e = rw (eq-eqb _ _ class, eq-eqb (address / 128 % 2) 1 e)
-
-    module _ (clear : address / 128 % 2 ≢ 1) where
-      pub bit-15 : address / 32768 % 2 ≡ 1 → true ≡ notSlave address
-      unfolding notSlave
-      bit-15 e = rw (eq-eqb _ _ class, ne-eqb _ _ clear, eq-eqb (address / 32768 % 2) 1 e)
-
-      pub bits-4-to-11 : address / 32768 % 2 ≢ 1 → eqb (address / 16 % 256) 0 ≡ notSlave address
-      unfolding notSlave
-      bits-4-to-11 other = rw (eq-eqb _ _ class, ne-eqb _ _ clear, ne-eqb _ _ other)
 
 module _ (size at address : ℕ) where
   pub absent-zero : address ≡ 0 → true ≡ isAbsent size at address

@@ -1,20 +1,20 @@
--- `plan::not_slave` meets its contract: the four tests of 14, one by one. Assumes nothing.
+-- `plan::not_slave` meets its contract: each `return` has a test that no slave's address passes, and behind them bits 4 to 11 are left. Assumes nothing.
 use native.Mathlib.Omega.{arith}
-use Rattle.slaves.proofs.Plans.{other-class, bit-7, bit-15, bits-4-to-11}
+use Rattle.slaves.proofs.Addresses.{no-slave, number-decides}
 use Rattle.slaves.proofs.plan.not_slave.Statement.{statement}
 use Rattle.slaves.proofs.plan.not_slave.Tie as tie
 
 returns : tie.Need-returns
-returns c = other-class _ (omega arith)
+returns c = no-slave _ (λ s. omega (arith, s .class))
 
 returns-2 : tie.Need-returns-2
-returns-2 c = bit-7 _ (omega arith) (omega arith)
+returns-2 c = no-slave _ (λ s. omega (arith, s .bit-7))
 
 returns-3 : tie.Need-returns-3
-returns-3 c = bit-15 _ (omega arith) (omega arith) (omega arith)
+returns-3 c = no-slave _ (λ s. omega (arith, s .bit-15))
 
 returns-4 : tie.Need-returns-4
-returns-4 c = bits-4-to-11 _ (omega arith) (omega arith) (omega arith)
+returns-4 c = number-decides _ (omega arith) (omega arith) (omega arith)
 
 pub not-slave-spec : {M : Type 1} → statement M
 not-slave-spec = tie.close (tie.spec returns returns-2 returns-3 returns-4)
