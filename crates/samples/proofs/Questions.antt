@@ -33,9 +33,9 @@ use Rattle.sections.specs.declared.Part.{Part}
 use Rattle.slave_id.specs.SlaveId.{slaveIdOf, writtenOf}
 use Rattle.slave_id.specs.SlaveId as SlaveIds
 use Rattle.slave_id.specs.declared.SlaveId.{SlaveId}
-use Rattle.slaves.specs.Answer.{enterRefusal, entered, foundOf, changeRefusal, changed, removeRefusal, removed}
-use Rattle.slaves.specs.declared.Slave.{Slave}
-use Rattle.slaves.specs.declared.Found as SlaveFound
+use Rattle.slave_plans.specs.Answer.{enterRefusal, entered, foundOf, changeRefusal, changed, removeRefusal, removed}
+use Rattle.slave_plans.specs.declared.Slave.{Slave}
+use Rattle.slave_plans.specs.declared.Found as SlaveFound
 
 -- an output is given by its room
 pub data Question : Type 0 where

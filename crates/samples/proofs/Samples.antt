@@ -4,8 +4,8 @@ use mathlib.Core.List.{List, [], _∷_, _++_}
 use lib.ListN.{take, replicate, set}
 use Rattle.record.specs.Record.{Record}
 use Rattle.record.specs.declared.Header.{Header}
-use Rattle.slaves.specs.Table.{none}
-use Rattle.slaves.specs.declared.Slave.{Slave}
+use Rattle.slave_plans.specs.Table.{none}
+use Rattle.slave_plans.specs.declared.Slave.{Slave}
 
 -- the n bytes that a number's digits show
 abbrev pub bytes : ℕ → ℕ → List ℕ

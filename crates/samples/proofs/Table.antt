@@ -30,9 +30,9 @@ use Rattle.sections.specs.Section.{cut, someShort}
 use Rattle.sections.specs.Element.{elementSize}
 use Rattle.sections.specs.Answer.{notBlock}
 use Rattle.slave_id.specs.SlaveId.{isResponse, slaveIdOf, tooWide, writeRefusal}
-use Rattle.slaves.specs.Table.{none, indexOf}
-use Rattle.slaves.specs.Answer.{notSlave, isAbsent, isTaken, enterRefusal, foundBy, changeRefusal, removeRefusal}
-use Rattle.slaves.specs.declared.Slave.{Slave}
+use Rattle.slave_plans.specs.Table.{none, indexOf}
+use Rattle.slave_plans.specs.Answer.{notSlave, isAbsent, isTaken, enterRefusal, foundBy, changeRefusal, removeRefusal}
+use Rattle.slave_plans.specs.declared.Slave.{Slave}
 use Rattle.samples.proofs.Questions.{Question, checksum, extract, inject, validate, read, carry, encode, value, next, receive, reset, fault, normalize, sections, section, elements, element, temperature, readSlaveId, writeSlaveId, enterSlave, findSlave, changeSlave, removeSlave, verdict, tableTold, untouched, answer}
 use Rattle.samples.proofs.Samples.{bytes, recorded, p1, d1, t1, t2, p1Unused, d1Unused, threeUnused, threeClear, t2Septet, twoFrames, sixTopBits, threeFrames, threeFramesPayload, damaged, packet, datagram, telegram, blockHeader, example, eachType, display, slave, slaves, twice}
 

@@ -1,27 +1,12 @@
-// The table of slaves (request No. 7), lent as a slice of entries. Each function over it is thin and has a walk for its proof;
-// what it decides stands in `plan`, on plain values.
+// The table of slaves (request No. 7), lent as a slice of entries. Each function over it is thin and proved by a walk of its MIR; what it
+// decides, crate slave_plans does, on plain values.
 ghost use mathlib.Core.Path.{_≡_};
 ghost use lib.ListN.{set, getD};
-ghost use Rattle.slaves.specs.Table.{none, indexOf};
-ghost use Rattle.slaves.specs.Answer.{enterRefusal, entered, foundOf, changeRefusal, changed, removeRefusal, removed};
+ghost use Rattle.slave_plans.specs.Table.{none, indexOf};
+ghost use Rattle.slave_plans.specs.Answer.{enterRefusal, entered, foundOf, changeRefusal, changed, removeRefusal, removed};
 
-mod plan;
-
-// An entry of the table. It is free exactly if its address is 0.
-#[repr(C)]
-pub struct Slave {
-    pub address: u16,
-    pub product: u32,
-    pub device: u32,
-}
-
-// The identifiers of the slave that was found, or a refusal's number and zeros.
-#[repr(C)]
-pub struct Found {
-    pub number: u32,
-    pub product: u32,
-    pub device: u32,
-}
+use slave_plans::Found;
+use slave_plans::Slave;
 
 // The entry at an index; past the end, zeros.
 fn entry_at(table: &[Slave], index: usize) -> Slave
@@ -54,7 +39,7 @@ fn seek(table: &[Slave], address: u16) -> usize
     let mut index = 0;
     while index < table.len() {
         let entry = entry_at(table, index);
-        if plan::has_address(entry, address) {
+        if slave_plans::has_address(entry, address) {
             return index;
         }
         index = index + 1;
@@ -68,7 +53,7 @@ pub fn enter(table: &mut [Slave], slave: Slave) -> u32
 {
     let at = seek(table, slave.address);
     let free = seek(table, 0);
-    let plan = plan::enter(table.len(), at, free, slave);
+    let plan = slave_plans::enter(table.len(), at, free, slave);
     put(table, plan.index, plan.entry);
     plan.number
 }
@@ -79,7 +64,7 @@ pub fn find(table: &[Slave], address: u16) -> Found
 {
     let at = seek(table, address);
     let entry = entry_at(table, at);
-    plan::find(table.len(), at, entry, address)
+    slave_plans::find(table.len(), at, entry, address)
 }
 
 // Changes a slave's address, and answers 0 or the refusal's number.
@@ -89,7 +74,7 @@ pub fn change_address(table: &mut [Slave], from: u16, to: u16) -> u32
     let at = seek(table, from);
     let entry = entry_at(table, at);
     let other = seek(table, to);
-    let plan = plan::change(table.len(), at, entry, other, from, to);
+    let plan = slave_plans::change(table.len(), at, entry, other, from, to);
     put(table, plan.index, plan.entry);
     plan.number
 }
@@ -99,7 +84,7 @@ pub fn remove(table: &mut [Slave], address: u16) -> u32
     ensures { λ r. ⌜ (r ≡ removeRefusal address (now (table .entry))) × (now (table .exit) ≡ removed address (now (table .entry))) ⌝ }
 {
     let at = seek(table, address);
-    let plan = plan::remove(table.len(), at, address);
+    let plan = slave_plans::remove(table.len(), at, address);
     put(table, plan.index, plan.entry);
     plan.number
 }

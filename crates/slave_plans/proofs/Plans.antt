@@ -1,0 +1,120 @@
+-- Each answer of the functions, by the tests that led to it.
+use Prim.Native.Nat.{ℕ, _≤_, _<_}
+use mathlib.Core.Path.{_≡_}
+use mathlib.Core.Logic.{_≢_}
+use mathlib.Core.Bool.{true, false}
+use lib.Dec.{leb, ltb}
+use borrow.Author.Tests.{eq-eqb, ne-eqb, le-leb, lt-leb, lt-ltb, le-ltb}
+use Rattle.basics.specs.Choice.{choose, first}
+use Rattle.slave_id.specs.SlaveId.{tooWide}
+use Rattle.slave_plans.specs.Answer.{notSlave, isAbsent, isTaken, enterLines, findLines, foundBy, changeLines}
+use Rattle.slave_plans.specs.declared.Slave.{Slave}
+
+-- ── the tests
+
+module _ (size at address : ℕ) where
+  pub absent-zero : address ≡ 0 → true ≡ isAbsent size at address
+  unfolding isAbsent
+  absent-zero z = rw (eq-eqb address 0 z)
+
+  pub absent-nowhere : address ≢ 0 → leb size at ≡ isAbsent size at address
+  unfolding isAbsent
+  absent-nowhere n = rw (ne-eqb address 0 n)
+
+module _ (size other from to : ℕ) where
+  pub taken-same : to ≡ from → false ≡ isTaken size other from to
+  unfolding isTaken
+  taken-same e = rw (eq-eqb to from e)
+
+  pub taken-other : to ≢ from → ltb other size ≡ isTaken size other from to
+  unfolding isTaken
+  taken-other n = rw (ne-eqb to from n)
+
+-- ── the first line that applies
+
+module _ (size at free : ℕ) (slave : Slave) where
+  abbrev entering : ℕ
+  entering = first (enterLines size at free slave)
+
+  pub enter-24 : size ≢ 32 → 24 ≡ entering
+  unfolding choose
+  enter-24 n = rw (ne-eqb _ _ n)
+
+  module _ (right : size ≡ 32) where
+    pub enter-14 : notSlave (slave .address) ≡ true → 14 ≡ entering
+    unfolding choose
+    enter-14 e = rw (eq-eqb _ _ right, e)
+
+    module _ (address : notSlave (slave .address) ≡ false) where
+      pub enter-18 : tooWide (slave .product) (slave .device) ≡ true → 18 ≡ entering
+      unfolding choose
+      enter-18 e = rw (eq-eqb _ _ right, address, e)
+
+      module _ (narrow : tooWide (slave .product) (slave .device) ≡ false) where
+        pub enter-15 : at < size → 15 ≡ entering
+        unfolding choose
+        enter-15 there = rw (eq-eqb _ _ right, address, narrow, lt-ltb at size there)
+
+        module _ (fresh : size ≤ at) where
+          pub enter-16 : size ≤ free → 16 ≡ entering
+          unfolding choose
+          enter-16 full = rw (eq-eqb _ _ right, address, narrow, le-ltb at size fresh, le-leb size free full)
+
+          pub enter-0 : free < size → 0 ≡ entering
+          unfolding choose
+          enter-0 room = rw (eq-eqb _ _ right, address, narrow, le-ltb at size fresh, lt-leb size free room)
+
+module _ (size at address : ℕ) where
+  abbrev finding : ℕ
+  finding = first (findLines size at address)
+
+  pub find-24 : size ≢ 32 → 24 ≡ finding
+  unfolding choose
+  find-24 n = rw (ne-eqb _ _ n)
+
+  module _ (right : size ≡ 32) where
+    pub find-17 : isAbsent size at address ≡ true → 17 ≡ finding
+    unfolding choose
+    find-17 e = rw (eq-eqb _ _ right, e)
+
+    pub find-0 : isAbsent size at address ≡ false → 0 ≡ finding
+    unfolding choose
+    find-0 e = rw (eq-eqb _ _ right, e)
+
+module _ (size at other from to : ℕ) where
+  abbrev changing : ℕ
+  changing = first (changeLines size at other from to)
+
+  pub change-24 : size ≢ 32 → 24 ≡ changing
+  unfolding choose
+  change-24 n = rw (ne-eqb _ _ n)
+
+  module _ (right : size ≡ 32) where
+    pub change-14 : notSlave to ≡ true → 14 ≡ changing
+    unfolding choose
+    change-14 e = rw (eq-eqb _ _ right, e)
+
+    module _ (new : notSlave to ≡ false) where
+      pub change-17 : isAbsent size at from ≡ true → 17 ≡ changing
+      unfolding choose
+      change-17 e = rw (eq-eqb _ _ right, new, e)
+
+      module _ (old : isAbsent size at from ≡ false) where
+        pub change-15 : isTaken size other from to ≡ true → 15 ≡ changing
+        unfolding choose
+        change-15 e = rw (eq-eqb _ _ right, new, old, e)
+
+        pub change-0 : isTaken size other from to ≡ false → 0 ≡ changing
+        unfolding choose
+        change-0 e = rw (eq-eqb _ _ right, new, old, e)
+
+-- ── what is found, by the refusal
+
+module _ (size at : ℕ) (entry : Slave) (address number : ℕ) (is : number ≡ first (findLines size at address)) where
+  pub found-refused : number ≢ 0 → record { number = number; product = 0; device = 0 } ≡ foundBy size at entry address
+  unfolding foundBy choose
+  found-refused refused = rw (← is, ne-eqb _ _ refused)
+
+  pub found-given : number ≡ 0 → record { number = 0; product = entry .product; device = entry .device } ≡ foundBy size at entry address
+  unfolding foundBy choose
+  found-given none = rw (← is, none)

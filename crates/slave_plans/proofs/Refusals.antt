@@ -1,0 +1,155 @@
+-- When each operation is refused, and when it isn't: in terms of the table's entries.
+use Prim.Native.Nat.{ℕ, _<_, _^_}
+use native.Mathlib.Omega.{arith}
+use mathlib.Core.Path.{_≡_, refl, sym, subst}
+use mathlib.Core.Logic.{_≢_, _↔_}
+use mathlib.Core.Bool.{Bool, true, false, not, _&&_}
+use mathlib.Core.List.{List}
+use lib.Dec.{eqb, leb, ltb}
+use lib.ListN.{length}
+use borrow.Author.Tests.{eq-eqb, ne-eqb, eqb-true, eqb-false, not-false, lt-leb, le-ltb, leb-false, ltb-false}
+use Rattle.basics.specs.Choice.{choose, first}
+use Rattle.basics.proofs.Choice.{neither}
+use Rattle.basics.proofs.Table.{line-passed}
+use Rattle.slave_id.specs.SlaveId.{tooWide}
+use Rattle.slave_plans.specs.Table.{indexOf}
+use Rattle.slave_plans.specs.Answer.{notSlave, isAbsent, isTaken, findLines, enterRefusal, changeRefusal, removeRefusal}
+use Rattle.slave_plans.specs.declared.Slave.{Slave}
+use Rattle.slave_plans.proofs.Addresses.{SlaveAddress, slave-exactly}
+use Rattle.slave_plans.proofs.Indices.{Lowest, Nowhere, index-lowest, index-is, index-none, index-nowhere}
+
+-- the lowest of the entries that have an address
+abbrev pub Held : ℕ → List Slave → Type 0
+Held a t = (i : ℕ) × Lowest a t i
+
+-- an address that finding doesn't refuse
+pub record Findable (a : ℕ) (t : List Slave) : Type 0 where
+  pub size : length t ≡ 32
+  pub some : a ≢ 0
+  pub held : Held a t
+
+module _ (a : ℕ) (t : List Slave) where
+  held-below : (leb (length t) (indexOf a t) ≡ false) ↔ Held a t
+  held-below = (
+    λ e. (indexOf a t, index-lowest a t (leb-false _ _ e)),
+    λ (i, x). lt-leb _ _ (subst (λ (n : ℕ). n < length t) (sym (index-is a t i x)) (x .inside)),
+  )
+
+  nowhere-past : (ltb (indexOf a t) (length t) ≡ false) ↔ Nowhere a t
+  nowhere-past = (λ e. index-nowhere a t (ltb-false _ _ e), λ n. le-ltb (indexOf a t) (length t) (omega (arith, index-none a t n)))
+
+  absent-exactly : (isAbsent (length t) (indexOf a t) a ≡ false) ↔ ((a ≢ 0) × Held a t)
+  unfolding isAbsent
+  absent-exactly = (
+    λ e. let both = neither (eqb a 0) _ e in (eqb-false _ _ (both .0), held-below .0 (both .1)),
+    λ (some, held). rw (ne-eqb _ _ some) (held-below .1 held),
+  )
+
+taken-exactly : (from to : ℕ) (t : List Slave) → (isTaken (length t) (indexOf to t) from to ≡ false) ↔ (to ≢ from → Nowhere to t)
+unfolding isTaken
+taken-exactly from to t = (
+  λ e other. nowhere-past to t .0 (rw (ne-eqb _ _ other) at e),
+  λ fresh. go (eqb to from) refl fresh,
+)
+  where
+    go : (b : Bool) → eqb to from ≡ b → (to ≢ from → Nowhere to t) → (not b && ltb (indexOf to t) (length t)) ≡ false
+    go true e fresh = refl
+    go false e fresh = nowhere-past to t .1 (fresh (eqb-false _ _ e))
+
+-- 18: both identifiers have 24 bits at most
+wide-exactly : (p d : ℕ) → (tooWide p d ≡ false) ↔ ((p < 2 ^ 24) × (d < 2 ^ 24))
+unfolding tooWide
+wide-exactly p d = (
+  λ e. let both = neither (leb (2 ^ 24) p) (leb (2 ^ 24) d) e in (leb-false _ _ (both .0), leb-false _ _ (both .1)),
+  λ (small, other). rw (lt-leb _ _ small, lt-leb _ _ other),
+)
+
+length-exactly : (n : ℕ) → (not (eqb n 32) ≡ false) ↔ (n ≡ 32)
+length-exactly n = (λ e. eqb-true _ _ (not-false _ e), λ e. rw (eq-eqb _ _ e))
+
+-- ── finding and removing
+
+module _ (a : ℕ) (t : List Slave) where
+  pub findable-exactly : (first (findLines (length t) (indexOf a t) a) ≡ 0) ↔ Findable a t
+  unfolding choose
+  findable-exactly = (
+    λ e.
+        let size = line-passed (not (eqb (length t) 32)) 24 _ (omega arith) e in
+        let there = line-passed (isAbsent (length t) (indexOf a t) a) 17 0 (omega arith) (size .1) in
+        let held = absent-exactly a t .0 (there .0) in
+        record { size = length-exactly (length t) .0 (size .0); some = held .0; held = held .1 },
+    λ f. rw (length-exactly (length t) .1 (f .size), absent-exactly a t .1 (f .some, f .held)),
+  )
+
+  pub remove-exactly : (removeRefusal a t ≡ 0) ↔ Findable a t
+  unfolding removeRefusal
+  remove-exactly = findable-exactly
+
+-- ── entering
+
+pub record MayEnter (s : Slave) (t : List Slave) : Type 0 where
+  pub size : length t ≡ 32
+  pub address : SlaveAddress (s .address)
+  pub product : s .product < 2 ^ 24
+  pub device : s .device < 2 ^ 24
+  pub fresh : Nowhere (s .address) t
+  pub free : Held 0 t
+
+pub enter-exactly : (s : Slave) (t : List Slave) → (enterRefusal s t ≡ 0) ↔ MayEnter s t
+unfolding enterRefusal choose
+enter-exactly s t = (
+  λ e.
+      let size = line-passed (not (eqb (length t) 32)) 24 _ (omega arith) e in
+      let address = line-passed (notSlave (s .address)) 14 _ (omega arith) (size .1) in
+      let narrow = line-passed (tooWide (s .product) (s .device)) 18 _ (omega arith) (address .1) in
+      let fresh = line-passed (ltb (indexOf (s .address) t) (length t)) 15 _ (omega arith) (narrow .1) in
+      let free = line-passed (leb (length t) (indexOf 0 t)) 16 0 (omega arith) (fresh .1) in
+      let bounds = wide-exactly (s .product) (s .device) .0 (narrow .0) in
+      record {
+        size = length-exactly (length t) .0 (size .0);
+        address = slave-exactly (s .address) .0 (address .0);
+        product = bounds .0;
+        device = bounds .1;
+        fresh = nowhere-past (s .address) t .0 (fresh .0);
+        free = held-below 0 t .0 (free .0);
+      },
+  λ m. rw (
+    length-exactly (length t) .1 (m .size),
+    slave-exactly (s .address) .1 (m .address),
+    wide-exactly (s .product) (s .device) .1 (m .product, m .device),
+    nowhere-past (s .address) t .1 (m .fresh),
+    held-below 0 t .1 (m .free),
+  ),
+)
+
+-- ── changing an address
+
+pub record MayChange (from to : ℕ) (t : List Slave) : Type 0 where
+  pub size : length t ≡ 32
+  pub new : SlaveAddress to
+  pub some : from ≢ 0
+  pub held : Held from t
+  pub fresh : to ≢ from → Nowhere to t
+
+pub change-exactly : (from to : ℕ) (t : List Slave) → (changeRefusal from to t ≡ 0) ↔ MayChange from to t
+unfolding changeRefusal choose
+change-exactly from to t = (
+  λ e.
+      let size = line-passed (not (eqb (length t) 32)) 24 _ (omega arith) e in
+      let new = line-passed (notSlave to) 14 _ (omega arith) (size .1) in
+      let old = line-passed (isAbsent (length t) (indexOf from t) from) 17 _ (omega arith) (new .1) in
+      let fresh = line-passed (isTaken (length t) (indexOf to t) from to) 15 0 (omega arith) (old .1) in
+      record {
+        size = length-exactly (length t) .0 (size .0);
+        new = slave-exactly to .0 (new .0);
+        some = absent-exactly from t .0 (old .0) .0;
+        held = absent-exactly from t .0 (old .0) .1;
+        fresh = taken-exactly from to t .0 (fresh .0);
+      },
+  λ m. rw (
+    length-exactly (length t) .1 (m .size),
+    slave-exactly to .1 (m .new),
+    absent-exactly from t .1 (m .some, m .held),
+    taken-exactly from to t .1 (m .fresh),
+  ),
+)

@@ -1,0 +1,198 @@
+// What each operation on a table of slaves (request No. 7) decides, from what crate slaves has seen of the table: its size, and the indices
+// where addresses stand, which are the size for an address that stands nowhere.
+ghost use mathlib.Core.Path.{_≡_};
+ghost use lib.Dec.{eqb};
+ghost use Rattle.basics.specs.Choice.{first};
+ghost use Rattle.slave_plans.specs.Answer.{notSlave, isAbsent, isTaken, enterLines, findLines, foundBy, changeLines};
+ghost use Rattle.slave_plans.specs.Table;
+ghost use Rattle.slave_plans.specs.Plan.{planBy, enterPlan, changePlan, removePlan};
+
+// An entry of the table. It is free exactly if its address is 0.
+#[repr(C)]
+pub struct Slave {
+    pub address: u16,
+    pub product: u32,
+    pub device: u32,
+}
+
+// The identifiers of the slave that was found, or a refusal's number and zeros.
+#[repr(C)]
+pub struct Found {
+    pub number: u32,
+    pub product: u32,
+    pub device: u32,
+}
+
+// The answer, and an entry with the index where it is put. A refusal's is past the end, where nothing changes.
+pub struct Plan {
+    pub number: u32,
+    pub index: usize,
+    pub entry: Slave,
+}
+
+pub fn has_address(entry: Slave, address: u16) -> bool
+    ensures { λ r. ⌜ r ≡ eqb (entry .address) address ⌝ }
+{
+    entry.address == address
+}
+
+// Refusal 14: no slave's address.
+fn not_slave(address: u16) -> bool
+    ensures { λ r. ⌜ r ≡ notSlave address ⌝ }
+{
+    if address / 4096 % 8 != 2 {
+        return true;
+    }
+    if address / 128 % 2 == 1 {
+        return true;
+    }
+    if address / 32768 % 2 == 1 {
+        return true;
+    }
+    address / 16 % 256 == 0
+}
+
+// A free entry.
+fn none() -> Slave
+    ensures { λ r. ⌜ r ≡ Table.none ⌝ }
+{
+    Slave {
+        address: 0,
+        product: 0,
+        device: 0,
+    }
+}
+
+// Refusal 17: the address stands nowhere, or is 0, that of the free entries.
+fn is_absent(size: usize, at: usize, address: u16) -> bool
+    ensures { λ r. ⌜ r ≡ isAbsent size at address ⌝ }
+{
+    if address == 0 {
+        return true;
+    }
+    size <= at
+}
+
+// Refusal 15 for a new address: it is another one, and stands somewhere.
+fn is_taken(size: usize, other: usize, from: u16, to: u16) -> bool
+    ensures { λ r. ⌜ r ≡ isTaken size other from to ⌝ }
+{
+    if to == from {
+        return false;
+    }
+    other < size
+}
+
+fn enter_refusal(size: usize, at: usize, free: usize, slave: Slave) -> u32
+    ensures { λ r. ⌜ r ≡ first (enterLines size at free slave) ⌝ }
+{
+    if size != 32 {
+        return 24;
+    }
+    if not_slave(slave.address) {
+        return 14;
+    }
+    if slave_id::too_wide(slave.product, slave.device) {
+        return 18;
+    }
+    if at < size {
+        return 15;
+    }
+    if size <= free {
+        return 16;
+    }
+    0
+}
+
+fn find_refusal(size: usize, at: usize, address: u16) -> u32
+    ensures { λ r. ⌜ r ≡ first (findLines size at address) ⌝ }
+{
+    if size != 32 {
+        return 24;
+    }
+    if is_absent(size, at, address) {
+        return 17;
+    }
+    0
+}
+
+fn change_refusal(size: usize, at: usize, other: usize, from: u16, to: u16) -> u32
+    ensures { λ r. ⌜ r ≡ first (changeLines size at other from to) ⌝ }
+{
+    if size != 32 {
+        return 24;
+    }
+    if not_slave(to) {
+        return 14;
+    }
+    if is_absent(size, at, from) {
+        return 17;
+    }
+    if is_taken(size, other, from, to) {
+        return 15;
+    }
+    0
+}
+
+// An entry to be put at an index or, refused, nothing.
+fn planned(number: u32, size: usize, index: usize, entry: Slave) -> Plan
+    ensures { λ r. ⌜ r ≡ planBy number size index entry ⌝ }
+{
+    if number != 0 {
+        return Plan {
+            number,
+            index: size,
+            entry: none(),
+        };
+    }
+    Plan {
+        number: 0,
+        index,
+        entry,
+    }
+}
+
+// The slave in place of the free entry.
+pub fn enter(size: usize, at: usize, free: usize, slave: Slave) -> Plan
+    ensures { λ r. ⌜ r ≡ enterPlan size at free slave ⌝ }
+{
+    planned(enter_refusal(size, at, free, slave), size, free, slave)
+}
+
+// The identifiers of the entry where the address stands.
+pub fn find(size: usize, at: usize, entry: Slave, address: u16) -> Found
+    ensures { λ r. ⌜ r ≡ foundBy size at entry address ⌝ }
+{
+    let number = find_refusal(size, at, address);
+    if number != 0 {
+        return Found {
+            number,
+            product: 0,
+            device: 0,
+        };
+    }
+    Found {
+        number: 0,
+        product: entry.product,
+        device: entry.device,
+    }
+}
+
+// The entry where the old address stands, with the new one.
+pub fn change(size: usize, at: usize, entry: Slave, other: usize, from: u16, to: u16) -> Plan
+    ensures { λ r. ⌜ r ≡ changePlan size at entry other from to ⌝ }
+{
+    let changed = Slave {
+        address: to,
+        product: entry.product,
+        device: entry.device,
+    };
+    planned(change_refusal(size, at, other, from, to), size, at, changed)
+}
+
+// A free entry where the address stands.
+pub fn remove(size: usize, at: usize, address: u16) -> Plan
+    ensures { λ r. ⌜ r ≡ removePlan size at address ⌝ }
+{
+    planned(find_refusal(size, at, address), size, at, none())
+}
