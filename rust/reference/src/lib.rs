@@ -2,16 +2,21 @@
 //!
 //! The differential tests compare the proved library with it, and the benchmarks measure against
 //! it. It therefore shares no code with the library and follows the same interface: an answer
-//! carries a `number`, 0 on success and 1 to 13 for a refusal, and every other field of a refusal
+//! carries a `number`, 0 on success and else that of the refusal, and every other field of a refusal
 //! is zero.
 
 #![forbid(unsafe_code)]
 
 mod faults;
 mod receiver;
+mod slaves;
 
 pub use faults::{faults, line, next_fault, Fault};
 pub use receiver::{Received, Receiver};
+pub use slaves::{
+    read_slave_id, slave_change_address, slave_enter, slave_find, slave_remove, write_slave_id,
+};
+pub use slaves::{Slave, SlaveFound, SlaveId};
 
 /// Starts every stream, and occurs nowhere else in one.
 const SYNC: u8 = 0xAA;
@@ -35,6 +40,12 @@ const NO_SUCH_PART: u32 = 10;
 const UNKNOWN_SECTION_TYPE: u32 = 11;
 const TOO_MANY_BYTES: u32 = 12;
 const PARTIAL_ELEMENT: u32 = 13;
+const NOT_A_SLAVES_ADDRESS: u32 = 14;
+const ADDRESS_IN_USE: u32 = 15;
+const NO_FREE_ENTRY: u32 = 16;
+const NO_SUCH_ADDRESS: u32 = 17;
+const NOT_A_SLAVE_ID: u32 = 18;
+const BAD_TABLE_LENGTH: u32 = 24;
 
 #[derive(Clone, Copy, PartialEq, Eq, Debug, Default)]
 pub struct Header {

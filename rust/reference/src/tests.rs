@@ -695,3 +695,280 @@ fn faults_from_any_start() {
         assert_eq!(next_fault(clean, 0), Fault::default());
     }
 }
+
+const T2_HEADER: Header = Header {
+    version: 0x30,
+    destination: 0x7731,
+    source: 0x2010,
+    command: 0x23,
+};
+const T2_PAYLOAD: [u8; 7] = [0x38, 0x90, 0x0D, 0xB6, 0xC6, 0x23, 0x00];
+
+#[test]
+fn slave_id_of_the_request() {
+    let expected = SlaveId {
+        number: 0,
+        product: 888_888,
+        device: 17 * 131_072 + 116_406,
+        week: 17,
+        serial: 116_406,
+    };
+    assert_eq!(round_trip(&T2), (T2_HEADER, T2_PAYLOAD.to_vec()));
+    assert_eq!(read_slave_id(T2_HEADER, &T2_PAYLOAD), expected);
+    let mut out = [0xEE; 18];
+    let (product, device) = (expected.product, expected.device);
+    let written = write_slave_id(0x7731, 0x2010, product, device, &mut out);
+    assert_eq!((written.number, written.length), (0, 17));
+    assert_eq!(out[..], [&T2[..], &[0xEE]].concat());
+}
+
+/// The largest week and number, and the week's lowest bit.
+#[test]
+fn weeks_and_consecutive_numbers() {
+    for (week, serial) in [
+        (0, 0),
+        (0, 131_071),
+        (1, 0),
+        (63, 1),
+        (64, 0),
+        (127, 131_071),
+    ] {
+        let device = u32::from(week) * 131_072 + serial;
+        let mut out = [0; 17];
+        assert_eq!(write_slave_id(0, 0, 0xFF_FFFF, device, &mut out).number, 0);
+        let (header, payload) = round_trip(&out);
+        let id = read_slave_id(header, &payload);
+        assert_eq!((id.number, id.product, id.device), (0, 0xFF_FFFF, device));
+        assert_eq!((id.week, id.serial), (week, serial));
+    }
+}
+
+#[test]
+fn no_slave_id_to_read() {
+    let refused = SlaveId {
+        number: 18,
+        ..SlaveId::default()
+    };
+    let with = |version, command| Header {
+        version,
+        command,
+        ..T2_HEADER
+    };
+    assert_eq!(read_slave_id(with(0x31, 0x23), &T2_PAYLOAD).number, 0);
+    for header in [
+        with(0x10, 0x23),
+        with(0x20, 0x23),
+        with(0x32, 0x23),
+        with(0x30, 0x22),
+        with(0x30, 0x63),
+        with(0x30, 0x2300),
+        with(0x30, 0x0123),
+    ] {
+        assert_eq!(read_slave_id(header, &T2_PAYLOAD), refused);
+    }
+    for length in (0..30).filter(|length| *length != 7) {
+        assert_eq!(read_slave_id(T2_HEADER, &vec![0; length]), refused);
+    }
+    for last in 1..=255 {
+        let payload = with_last(T2_PAYLOAD, last);
+        assert_eq!(read_slave_id(T2_HEADER, &payload), refused);
+    }
+}
+
+fn with_last(mut payload: [u8; 7], last: u8) -> [u8; 7] {
+    payload[6] = last;
+    payload
+}
+
+/// 18, then 2, then 5.
+#[test]
+fn order_when_writing_a_slave_id() {
+    let wide = 1 << 24;
+    for (destination, source, product, device, room, number) in [
+        (0x0080, 0, wide, 0, 0, 18),
+        (0, 0, 0, u32::MAX, 17, 18),
+        (0x0080, 0, 0, 0, 16, 2),
+        (0, 0x8000, 0, 0, 17, 2),
+        (0, 0, 0, 0, 16, 5),
+    ] {
+        let mut out = [0xEE; 17];
+        let written = write_slave_id(destination, source, product, device, &mut out[..room]);
+        assert_eq!((written.number, written.length), (number, 0));
+        assert_eq!(out, [0xEE; 17]);
+    }
+}
+
+fn slave(address: u16) -> Slave {
+    Slave {
+        address,
+        product: 0x10_0000 + u32::from(address),
+        device: 0x20_0000 + u32::from(address),
+    }
+}
+
+/// 32 slaves, from 0x2100 to 0x210F and from 0x2300 to 0x230F.
+fn full_table() -> [Slave; 32] {
+    std::array::from_fn(|i| slave([0x2100, 0x2300][i / 16] + i as u16 % 16))
+}
+
+/// All four operations on the table, with the numbers given.
+fn numbers(table: &mut [Slave], slave: Slave, from: u16) -> [u32; 4] {
+    [
+        slave_enter(table, slave),
+        slave_find(table, slave.address).number,
+        slave_change_address(table, from, slave.address),
+        slave_remove(table, slave.address),
+    ]
+}
+
+/// 24 before all else, whatever else is wrong; nothing changes.
+#[test]
+fn tables_of_other_lengths() {
+    let full = [full_table(), full_table()].concat();
+    for length in (0..=64).filter(|length| *length != 32) {
+        let mut table = full[..length].to_vec();
+        for address in [0, 0x2000, 0x2100, 0x2F7F] {
+            assert_eq!(numbers(&mut table, slave(address), 0), [24; 4]);
+            let wide = Slave {
+                product: 1 << 24,
+                ..slave(address)
+            };
+            assert_eq!(slave_enter(&mut table, wide), 24);
+        }
+        assert_eq!(table, full[..length]);
+    }
+}
+
+#[test]
+fn addresses_of_slaves() {
+    for (address, number) in [
+        (0x0000, 14),
+        (0x1010, 14),
+        (0x2000, 14),
+        (0x200F, 14),
+        (0x2010, 0),
+        (0x207F, 0),
+        (0x2080, 14),
+        (0x20FF, 14),
+        (0x2100, 0),
+        (0x210F, 0),
+        (0x2180, 14),
+        (0x2F7F, 0),
+        (0x2F80, 14),
+        (0x3010, 14),
+        (0x6010, 14),
+        (0xA010, 14),
+    ] {
+        let mut table = [Slave::default(); 32];
+        assert_eq!(
+            slave_enter(&mut table, slave(address)),
+            number,
+            "{address:04X}"
+        );
+        table[0] = slave(0x2F00);
+        let changed = slave_change_address(&mut table, 0x2F00, address);
+        assert_eq!(changed, number, "{address:04X}");
+    }
+}
+
+/// 14, 18, 15 and 16, each with all that comes behind it.
+#[test]
+fn order_when_entering() {
+    let mut table = full_table();
+    table[8].address = 0x2008;
+    let before = table;
+    let wide = |address| Slave {
+        device: 1 << 24,
+        ..slave(address)
+    };
+    assert_eq!(slave_enter(&mut table, wide(0x2008)), 14);
+    assert_eq!(slave_enter(&mut table, slave(0x2008)), 14);
+    assert_eq!(slave_enter(&mut table, wide(0x2100)), 18);
+    assert_eq!(slave_enter(&mut table, slave(0x2100)), 15);
+    assert_eq!(slave_enter(&mut table, slave(0x2400)), 16);
+    assert_eq!(table, before);
+}
+
+/// The lowest free entry is taken, with whatever identifiers it had.
+#[test]
+fn entering_takes_the_lowest_free_entry() {
+    let mut table = full_table();
+    table[30] = Slave::default();
+    table[17] = slave(0);
+    let mut expected = table;
+    for (address, index) in [(0x2400, 17), (0x2401, 30)] {
+        assert_eq!(slave_enter(&mut table, slave(address)), 0);
+        expected[index] = slave(address);
+        assert_eq!(table, expected);
+    }
+}
+
+/// The new address (14), the old (17), the new again (15), unless it equals the old.
+#[test]
+fn order_when_changing() {
+    let mut table = full_table();
+    table[8].address = 0x2008;
+    let before = table;
+    assert_eq!(slave_change_address(&mut table, 0x2400, 0x2008), 14);
+    assert_eq!(slave_change_address(&mut table, 0x2008, 0x2008), 14);
+    assert_eq!(slave_change_address(&mut table, 0x2400, 0x2101), 17);
+    assert_eq!(slave_change_address(&mut table, 0x2400, 0x2400), 17);
+    assert_eq!(slave_change_address(&mut table, 0, 0x2400), 17);
+    assert_eq!(slave_change_address(&mut table, 0x2100, 0x2101), 15);
+    assert_eq!(slave_change_address(&mut table, 0x2100, 0x2100), 0);
+    assert_eq!(table, before);
+    assert_eq!(slave_change_address(&mut table, 0x2008, 0x2400), 0);
+    let mut expected = before;
+    expected[8].address = 0x2400;
+    assert_eq!(table, expected);
+}
+
+/// Found are the identifiers as they are, also of an address that no slave has, but never those of a
+/// free entry.
+#[test]
+fn finding_and_removing() {
+    let mut table = full_table();
+    table[5] = Slave {
+        address: 0xFFFF,
+        product: u32::MAX,
+        device: 1 << 31,
+    };
+    table[6].address = 0;
+    let before = table;
+    let found = slave_find(&table, 0xFFFF);
+    assert_eq!(
+        (found.number, found.product, found.device),
+        (0, u32::MAX, 1 << 31)
+    );
+    for absent in [0, 0x2106, 0x2400] {
+        let refused = SlaveFound {
+            number: 17,
+            ..SlaveFound::default()
+        };
+        assert_eq!(slave_find(&table, absent), refused);
+        assert_eq!(slave_remove(&mut table, absent), 17);
+    }
+    assert_eq!(table, before);
+    assert_eq!(slave_remove(&mut table, 0xFFFF), 0);
+    let mut expected = before;
+    expected[5] = Slave::default();
+    assert_eq!(table, expected);
+}
+
+/// The lowest entry counts, one after the other.
+#[test]
+fn an_address_in_two_entries() {
+    let mut table = full_table();
+    table[20].address = table[3].address;
+    let mut expected = table;
+    assert_eq!(slave_find(&table, 0x2103).product, table[3].product);
+    assert_eq!(slave_change_address(&mut table, 0x2103, 0x2103), 0);
+    assert_eq!(table, expected);
+    assert_eq!(slave_change_address(&mut table, 0x2103, 0x2400), 0);
+    expected[3].address = 0x2400;
+    assert_eq!(table, expected);
+    assert_eq!(slave_find(&table, 0x2103).product, table[20].product);
+    assert_eq!(slave_remove(&mut table, 0x2103), 0);
+    expected[20] = Slave::default();
+    assert_eq!(table, expected);
+}
