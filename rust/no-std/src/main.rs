@@ -10,7 +10,7 @@
 use core::fmt::{self, Write};
 use core::panic::PanicInfo;
 
-use vbus::{Error, Header, Kind, Receiver};
+use vbus::{Error, Header, Kind, Receiver, Slave, SlaveTable};
 
 /// A telegram without a frame, behind the start of a stream that was cut off.
 const RECORDING: [u8; 11] = [
@@ -40,6 +40,7 @@ pub extern "C" fn main() -> i32 {
     writing();
     septets();
     sections();
+    slaves();
     0
 }
 
@@ -112,6 +113,37 @@ fn sections() {
     assert!(section.temperatures().unwrap().eq([750, -1]));
     assert_eq!(vbus::temperature(&[0xEE, 0x02]), 750);
     assert!(sections.next().is_none());
+}
+
+fn slaves() {
+    static EMPTY: SlaveTable = SlaveTable::new();
+    let header = Header::telegram(0x7731, 0x2010, 0x23);
+    let payload = [0x38, 0x90, 0x0D, 0xB6, 0xC6, 0x23, 0x00];
+    let id = vbus::read_slave_id(header, &payload).unwrap();
+    assert_eq!((id.week, id.serial), (17, 116_406));
+    let mut out = [0; 17];
+    let written = vbus::write_slave_id(0x7731, 0x2010, id.identifiers(), &mut out);
+    assert_eq!(written, vbus::encode(header, &payload, &mut [0; 17]));
+    assert_eq!((out[0], out[16]), (0xAA, 0x71));
+
+    let mut table = EMPTY.clone();
+    let (product, device) = (id.product, id.device);
+    let slave = |address| Slave {
+        address,
+        product,
+        device,
+    };
+    table.enter(slave(0x2010)).unwrap();
+    assert_eq!(table.enter(slave(0x2010)), Err(Error::AddressTaken));
+    assert_eq!(table.enter(slave(0x2000)), Err(Error::NotSlaveAddress));
+    table.change_address(0x2010, 0x2011).unwrap();
+    assert_eq!(table.find(0x2011), Ok(id.identifiers()));
+    assert!(table.slaves().eq([slave(0x2011)]));
+    table.remove(0x2011).unwrap();
+    let error = table.find(0x2011).unwrap_err();
+    let text = "no entry of the table has that address";
+    assert_eq!(Line::of(error).text(), text);
+    assert_eq!(table, EMPTY);
 }
 
 /// A line of text without a heap.

@@ -5,17 +5,21 @@
 //! build time, else from `target/staticlib` at the repository's top, where `./build vbus` puts it.
 //!
 //! An answer's `number` is 0, or that of a refusal; every other field of a refused answer is 0, but
-//! a receiver, which comes back as it was.
+//! a receiver, which comes back as it was. The functions that change a table of slaves answer the
+//! number alone.
 //!
 //! # Safety
 //!
-//! A pointer must be valid for as many bytes as the count beside it says (an array's for its
-//! length), for reading where const, for writing where mut, and a receiver's memory for both. With
-//! count 0 it may be anything, null too. What is written must not overlap another buffer of the call.
-//! Nothing else is asked: any number may be passed.
+//! A pointer must be valid for as many bytes, or entries of a table, as the count beside it says (an
+//! array's for its length), for reading where const, for writing where mut, and a receiver's memory
+//! and a table for both; a table's must be aligned. With count 0 it may be anything, null too. What is
+//! written must not overlap another buffer of the call. Nothing else is asked: any number may be passed.
 
 #![no_std]
 #![deny(missing_docs)]
+
+/// The entries of a table of slaves. Any other count is refused.
+pub const SLAVES: usize = 32;
 
 /// Everything of a record but its payload.
 #[repr(C)]
@@ -161,6 +165,46 @@ pub struct Septets {
     pub septet: u8,
 }
 
+/// What a slave ID response tells.
+#[repr(C)]
+#[derive(Clone, Copy, PartialEq, Eq, Debug, Default)]
+pub struct SlaveId {
+    /// 0, or the number of the refusal.
+    pub number: u32,
+    /// The product identifier, of 24 bits.
+    pub product: u32,
+    /// The device identifier, of 24 bits.
+    pub device: u32,
+    /// The production week, 0 to 127: the device identifier divided by 131072.
+    pub week: u8,
+    /// The consecutive number, 0 to 131071: the remainder of that.
+    pub serial: u32,
+}
+
+/// An entry of a table of slaves. It is free exactly if its address is 0.
+#[repr(C)]
+#[derive(Clone, Copy, PartialEq, Eq, Debug, Default)]
+pub struct Slave {
+    /// The slave's address.
+    pub address: u16,
+    /// The product identifier, of 24 bits.
+    pub product: u32,
+    /// The device identifier, of 24 bits.
+    pub device: u32,
+}
+
+/// The identifiers of a slave that was found.
+#[repr(C)]
+#[derive(Clone, Copy, PartialEq, Eq, Debug, Default)]
+pub struct SlaveFound {
+    /// 0, or the number of the refusal.
+    pub number: u32,
+    /// The product identifier.
+    pub product: u32,
+    /// The device identifier.
+    pub device: u32,
+}
+
 extern "C" {
     /// The checksum of a block.
     pub fn vbus_checksum(bytes: *const u8, n: usize) -> u8;
@@ -239,4 +283,29 @@ extern "C" {
         section: usize,
         element: usize,
     ) -> Part;
+
+    /// Reads the slave ID response that a record is.
+    pub fn vbus_read_slave_id(header: Header, payload: *const u8, n: usize) -> SlaveId;
+
+    /// Writes the stream of a slave ID response.
+    pub fn vbus_write_slave_id(
+        destination: u16,
+        source: u16,
+        product: u32,
+        device: u32,
+        out: *mut u8,
+        room: usize,
+    ) -> Written;
+
+    /// Enters a slave as the free entry with the lowest index.
+    pub fn vbus_slave_enter(table: *mut Slave, n: usize, slave: Slave) -> u32;
+
+    /// The identifiers of the slave with an address.
+    pub fn vbus_slave_find(table: *const Slave, n: usize, address: u16) -> SlaveFound;
+
+    /// Gives the slave with address `from` the address `to`.
+    pub fn vbus_slave_change_address(table: *mut Slave, n: usize, from: u16, to: u16) -> u32;
+
+    /// Removes the slave with an address.
+    pub fn vbus_slave_remove(table: *mut Slave, n: usize, address: u16) -> u32;
 }

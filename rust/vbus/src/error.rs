@@ -76,6 +76,12 @@ numbered! {
         11 UnknownSectionType "the section's type has no known element size";
         12 PositionOverflow "the chunk would take the position past the largest 64-bit number";
         13 PartialElement "the section ends within an element: it has type 0x0A and an odd number of frames";
+        14 NotSlaveAddress "no slave has an address like that: bits 14 to 12 are not 2, bit 7 or 15 is set, or bits 11 to 4 are all 0";
+        15 AddressTaken "the table already has an entry with that address";
+        16 TableFull "no entry of the table is free";
+        17 NoSuchAddress "no entry of the table has that address";
+        18 NotSlaveId "the record is no slave ID response, or an identifier needs more than 24 bits";
+        24 WrongTableLength "the table does not have 32 entries";
     }
 }
 

@@ -4,7 +4,7 @@ use core::fmt;
 
 use crate::header::{datagram_payload, write_line};
 use crate::sections::{sections, Sections};
-use crate::{parameter, value, Error, Header};
+use crate::{parameter, read_slave_id, value, Error, Header, SlaveId};
 #[cfg(feature = "std")]
 use crate::{Entry, Record};
 
@@ -90,6 +90,11 @@ impl<'b> Found<'b> {
     /// The sections of a block packet.
     pub fn sections(&self) -> Result<Sections<'b>, Error> {
         sections(self.header, self.payload)
+    }
+
+    /// What a slave ID response tells; refused for other records.
+    pub fn slave_id(&self) -> Result<SlaveId, Error> {
+        read_slave_id(self.header, self.payload)
     }
 
     /// A copy that doesn't borrow from the buffer.

@@ -27,6 +27,9 @@
 //!
 //! Why a 0xAA, with which every stream begins, gave no record is told by [`faults`].
 //!
+//! Who a slave is that answered is told by [`read_slave_id`]; a [`SlaveTable`] keeps the slaves by
+//! their addresses.
+//!
 //! The archive is taken from the folder that the environment variable `VBUS_LIB_DIR` names at
 //! build time, else from `target/staticlib` at the repository's top, where `./build vbus` puts it.
 //!
@@ -47,6 +50,8 @@ mod record;
 #[cfg(feature = "std")]
 mod record_reader;
 mod sections;
+mod slave_id;
+mod slaves;
 
 pub use error::{Error, Fault, Verdict};
 pub use faults::{faults, FaultEntry, Faults};
@@ -60,12 +65,17 @@ pub use record::{encode_to_vec, normalize_to_vec, records, Entry, Record, Record
 #[cfg(feature = "std")]
 pub use record_reader::RecordReader;
 pub use sections::{section, sections, Elements, Section, Sections};
+pub use slave_id::{read_slave_id, write_slave_id, Identifiers, SlaveId};
+pub use slaves::{Slave, SlaveTable, Slaves};
 
 /// The longest payload, that of a packet with 127 frames.
 pub const MAX_PAYLOAD: usize = 508;
 
 /// The longest stream, that of a packet with 127 frames.
 pub const MAX_STREAM: usize = 772;
+
+/// The entries of a table of slaves.
+pub const SLAVES: usize = vbus_sys::SLAVES;
 
 fn check(number: u32) -> Result<(), Error> {
     match number {

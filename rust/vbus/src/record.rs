@@ -5,8 +5,8 @@ use core::iter::FusedIterator;
 
 use crate::header::{datagram_payload, write_line};
 use crate::sections::{sections, Sections};
-use crate::{encode, next, normalize, parameter, value};
-use crate::{Error, Header, MAX_PAYLOAD, MAX_STREAM};
+use crate::{encode, next, normalize, parameter, read_slave_id, value};
+use crate::{Error, Header, SlaveId, MAX_PAYLOAD, MAX_STREAM};
 
 /// What a stream carries.
 ///
@@ -136,6 +136,18 @@ impl Record {
     /// The sections of a block packet.
     pub fn sections(&self) -> Result<Sections<'_>, Error> {
         sections(self.header, &self.payload)
+    }
+
+    /// What a slave ID response tells; refused for other records.
+    ///
+    /// ```
+    /// let payload = [0x38, 0x90, 0x0D, 0xB6, 0xC6, 0x23, 0x00];
+    /// let id = vbus::Record::telegram(0x7731, 0x2010, 0x23, payload).slave_id()?;
+    /// assert_eq!((id.product, id.week, id.serial), (888_888, 17, 116_406));
+    /// # Ok::<(), vbus::Error>(())
+    /// ```
+    pub fn slave_id(&self) -> Result<SlaveId, Error> {
+        read_slave_id(self.header, &self.payload)
     }
 }
 

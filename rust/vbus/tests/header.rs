@@ -85,14 +85,21 @@ fn numbers_of_refusals() {
         (11, Error::UnknownSectionType),
         (12, Error::PositionOverflow),
         (13, Error::PartialElement),
+        (14, Error::NotSlaveAddress),
+        (15, Error::AddressTaken),
+        (16, Error::TableFull),
+        (17, Error::NoSuchAddress),
+        (18, Error::NotSlaveId),
+        (24, Error::WrongTableLength),
     ];
     assert_eq!(Error::ALL, errors.map(|(_, error)| error));
     for (number, error) in errors {
         assert_eq!(error.number(), number);
         assert_eq!(Error::from_number(number), Some(error));
     }
-    assert_eq!(Error::from_number(0), None);
-    assert_eq!(Error::from_number(14), None);
+    for number in [0, 19, 20, 21, 22, 23, 25] {
+        assert_eq!(Error::from_number(number), None);
+    }
 }
 
 /// The verdicts have these numbers, and there are no others: 5 is no longer given.
@@ -168,6 +175,7 @@ fn definitions_are_those_of_the_header() {
     assert_eq!(version.join("."), env!("CARGO_PKG_VERSION"));
     assert_eq!(defined("VBUS_MAX_PAYLOAD"), vbus::MAX_PAYLOAD.to_string());
     assert_eq!(defined("VBUS_MAX_STREAM"), vbus::MAX_STREAM.to_string());
+    assert_eq!(defined("VBUS_SLAVES"), vbus::SLAVES.to_string());
 }
 
 /// The words that begin with `vbus_` and stand before a parenthesis.
@@ -185,5 +193,5 @@ fn functions_are_those_of_the_header() {
     let path = concat!(env!("CARGO_MANIFEST_DIR"), "/../vbus-sys/src/lib.rs");
     let declarations = fs::read_to_string(path).expect("rust/vbus-sys can be read");
     assert_eq!(functions(&declarations), functions(&header()));
-    assert!(functions(&declarations).len() >= 16);
+    assert!(functions(&declarations).len() >= 22);
 }

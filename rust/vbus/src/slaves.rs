@@ -1,0 +1,230 @@
+//! A table of the slaves on the bus.
+
+use core::iter::FusedIterator;
+use core::slice;
+
+use crate::{check, Error, Identifiers, SLAVES};
+
+/// An entry of a table of slaves. It is free exactly if its address is 0; the default one is free.
+#[derive(Clone, Copy, PartialEq, Eq, Hash, Debug, Default)]
+pub struct Slave {
+    /// The slave's address: bits 14 to 12 are 2, bits 15 and 7 are 0, and of bits 11 to 4 some is set.
+    pub address: u16,
+    /// The product identifier, of 24 bits.
+    pub product: u32,
+    /// The device identifier, of 24 bits.
+    pub device: u32,
+}
+
+impl Slave {
+    /// The identifiers alone.
+    pub const fn identifiers(&self) -> Identifiers {
+        Identifiers {
+            product: self.product,
+            device: self.device,
+        }
+    }
+
+    fn to_sys(self) -> vbus_sys::Slave {
+        vbus_sys::Slave {
+            address: self.address,
+            product: self.product,
+            device: self.device,
+        }
+    }
+
+    fn from_sys(slave: vbus_sys::Slave) -> Slave {
+        Slave {
+            address: slave.address,
+            product: slave.product,
+            device: slave.device,
+        }
+    }
+}
+
+/// A table of at most [`SLAVES`] slaves, by their addresses.
+///
+/// Calls never make an address stand in it twice, and a refused call changes nothing.
+///
+/// ```
+/// use vbus::{Error, Slave, SlaveTable};
+///
+/// // A slave's answer: who it is, and by its source where it is.
+/// let stream = [
+///     0xAA, 0x31, 0x77, 0x10, 0x20, 0x30, 0x23, 0x54, // header
+///     0x38, 0x10, 0x0D, 0x36, 0x46, 0x23, 0x00, 0x1A, 0x71, // frame
+/// ];
+/// let mut buffer = [0; vbus::MAX_PAYLOAD];
+/// let found = vbus::next(&stream, 0, &mut buffer)?.unwrap();
+/// let (address, id) = (found.header.source, found.slave_id()?);
+/// let slave = Slave { address, product: id.product, device: id.device };
+///
+/// let mut table = SlaveTable::new();
+/// table.enter(slave)?;
+/// assert_eq!(table.enter(slave), Err(Error::AddressTaken));
+/// table.change_address(0x2010, 0x2011)?;
+/// assert_eq!(table.find(0x2011)?, id.identifiers());
+/// assert_eq!(table.find(0x2010), Err(Error::NoSuchAddress));
+/// table.remove(0x2011)?;
+/// assert_eq!(table, SlaveTable::new());
+/// # Ok::<(), vbus::Error>(())
+/// ```
+///
+/// It needs no heap, and [`SlaveTable::new`] is `const`, so that it can be part of a `static`. Made
+/// into an array, and of one, it can be kept elsewhere, such as in flash:
+///
+/// ```
+/// # use vbus::{Slave, SlaveTable, SLAVES};
+/// # let mut table = SlaveTable::new();
+/// # table.enter(Slave { address: 0x2010, product: 888_888, device: 2_344_630 })?;
+/// let kept: [Slave; SLAVES] = table.clone().into();
+/// assert_eq!(kept[0].address, 0x2010);
+/// assert_eq!(SlaveTable::from(kept), table);
+/// # Ok::<(), vbus::Error>(())
+/// ```
+#[derive(Clone, PartialEq, Eq, Debug)]
+pub struct SlaveTable {
+    entries: [vbus_sys::Slave; SLAVES],
+}
+
+impl SlaveTable {
+    /// An empty table.
+    pub const fn new() -> SlaveTable {
+        let free = vbus_sys::Slave {
+            address: 0,
+            product: 0,
+            device: 0,
+        };
+        SlaveTable {
+            entries: [free; SLAVES],
+        }
+    }
+
+    /// Enters a slave as the free entry with the lowest index.
+    ///
+    /// Refused, in this order, if no slave has an address like that
+    /// ([`NotSlaveAddress`](Error::NotSlaveAddress)), if an identifier needs more than 24 bits
+    /// ([`NotSlaveId`](Error::NotSlaveId)), if an entry has the address
+    /// ([`AddressTaken`](Error::AddressTaken)), and if no entry is free
+    /// ([`TableFull`](Error::TableFull)).
+    ///
+    /// ```
+    /// use vbus::{Error, Slave, SlaveTable};
+    ///
+    /// let mut table = SlaveTable::new();
+    /// let everyone = Slave { address: 0x2000, product: 1, device: 2 };
+    /// assert_eq!(table.enter(everyone), Err(Error::NotSlaveAddress));
+    /// let wide = Slave { address: 0x2010, product: 1, device: 1 << 24 };
+    /// assert_eq!(table.enter(wide), Err(Error::NotSlaveId));
+    /// ```
+    pub fn enter(&mut self, slave: Slave) -> Result<(), Error> {
+        let (table, n) = (self.entries.as_mut_ptr(), self.entries.len());
+        // SAFETY: pointer and count are those of an array that is borrowed mutably.
+        check(unsafe { vbus_sys::vbus_slave_enter(table, n, slave.to_sys()) })
+    }
+
+    /// The identifiers of the slave with an address. The address 0, that of free entries, is never
+    /// found.
+    pub fn find(&self, address: u16) -> Result<Identifiers, Error> {
+        let (table, n) = (self.entries.as_ptr(), self.entries.len());
+        // SAFETY: pointer and count are those of an array.
+        let answer = unsafe { vbus_sys::vbus_slave_find(table, n, address) };
+        check(answer.number)?;
+        Ok(Identifiers {
+            product: answer.product,
+            device: answer.device,
+        })
+    }
+
+    /// Gives the slave with address `from` the address `to`; it keeps its identifiers. To the address
+    /// that it has, it succeeds and changes nothing.
+    ///
+    /// Refused, in this order, if no slave has an address like `to`
+    /// ([`NotSlaveAddress`](Error::NotSlaveAddress)), if no entry has the address `from`
+    /// ([`NoSuchAddress`](Error::NoSuchAddress)), and if one already has `to`
+    /// ([`AddressTaken`](Error::AddressTaken)).
+    ///
+    /// ```
+    /// use vbus::{Error, Slave, SlaveTable};
+    ///
+    /// let mut table = SlaveTable::new();
+    /// for address in [0x2010, 0x2020] {
+    ///     table.enter(Slave { address, product: 1, device: 2 })?;
+    /// }
+    /// assert_eq!(table.change_address(0x2010, 0x2010), Ok(()));
+    /// assert_eq!(table.change_address(0x2010, 0x2020), Err(Error::AddressTaken));
+    /// assert_eq!(table.change_address(0x2030, 0x2020), Err(Error::NoSuchAddress));
+    /// # Ok::<(), vbus::Error>(())
+    /// ```
+    pub fn change_address(&mut self, from: u16, to: u16) -> Result<(), Error> {
+        let (table, n) = (self.entries.as_mut_ptr(), self.entries.len());
+        // SAFETY: pointer and count are those of an array that is borrowed mutably.
+        check(unsafe { vbus_sys::vbus_slave_change_address(table, n, from, to) })
+    }
+
+    /// Removes the slave with an address: its entry is free, with all its fields 0.
+    pub fn remove(&mut self, address: u16) -> Result<(), Error> {
+        let (table, n) = (self.entries.as_mut_ptr(), self.entries.len());
+        // SAFETY: pointer and count are those of an array that is borrowed mutably.
+        check(unsafe { vbus_sys::vbus_slave_remove(table, n, address) })
+    }
+
+    /// The entries that aren't free, in order.
+    ///
+    /// ```
+    /// use vbus::{Slave, SlaveTable};
+    ///
+    /// let mut table = SlaveTable::new();
+    /// for address in [0x2010, 0x2020, 0x2030] {
+    ///     table.enter(Slave { address, product: 1, device: 2 })?;
+    /// }
+    /// table.remove(0x2020)?;
+    /// assert!(table.slaves().map(|slave| slave.address).eq([0x2010, 0x2030]));
+    /// # Ok::<(), vbus::Error>(())
+    /// ```
+    pub fn slaves(&self) -> Slaves<'_> {
+        Slaves {
+            entries: self.entries.iter(),
+        }
+    }
+}
+
+impl Default for SlaveTable {
+    fn default() -> SlaveTable {
+        SlaveTable::new()
+    }
+}
+
+/// A table with just these entries. Nothing is checked: an address that no slave has can be found,
+/// changed and removed, and of one that stands twice the entry with the lower index counts.
+impl From<[Slave; SLAVES]> for SlaveTable {
+    fn from(entries: [Slave; SLAVES]) -> SlaveTable {
+        SlaveTable {
+            entries: entries.map(Slave::to_sys),
+        }
+    }
+}
+
+/// All entries, the free ones too.
+impl From<SlaveTable> for [Slave; SLAVES] {
+    fn from(table: SlaveTable) -> [Slave; SLAVES] {
+        table.entries.map(Slave::from_sys)
+    }
+}
+
+/// The entries of a table that aren't free, in order. Made by [`SlaveTable::slaves`].
+#[derive(Clone, Debug)]
+pub struct Slaves<'a> {
+    entries: slice::Iter<'a, vbus_sys::Slave>,
+}
+
+impl Iterator for Slaves<'_> {
+    type Item = Slave;
+
+    fn next(&mut self) -> Option<Slave> {
+        let entry = self.entries.find(|entry| entry.address != 0)?;
+        Some(Slave::from_sys(*entry))
+    }
+}
+
+impl FusedIterator for Slaves<'_> {}

@@ -1,0 +1,263 @@
+//! The slave ID response, and the table of slaves; there without the feature `std` too.
+
+mod samples;
+
+use samples::{D1, P1, T2};
+use vbus::*;
+
+const ID: Identifiers = Identifiers {
+    product: 888_888,
+    device: 17 * 131_072 + 116_406,
+};
+
+fn slave(address: u16) -> Slave {
+    Slave {
+        address,
+        product: u32::from(address) + 1,
+        device: u32::from(address) + 2,
+    }
+}
+
+/// The address of the slave number `number`, each with a group of its own.
+fn address(number: usize) -> u16 {
+    [0x2010, 0x2100][number / 7 % 2] + 0x10 * (number % 7) as u16 + 0x200 * (number / 14) as u16
+}
+
+/// The addresses of a full table.
+fn addresses() -> [u16; SLAVES] {
+    std::array::from_fn(address)
+}
+
+fn full() -> SlaveTable {
+    let mut table = SlaveTable::new();
+    for address in addresses() {
+        assert_eq!(table.enter(slave(address)), Ok(()));
+    }
+    table
+}
+
+fn entries(table: &SlaveTable) -> [Slave; SLAVES] {
+    table.clone().into()
+}
+
+/// The call is refused so, and changes nothing.
+fn refused(
+    table: &mut SlaveTable,
+    error: Error,
+    call: impl FnOnce(&mut SlaveTable) -> Result<(), Error>,
+) {
+    let before = table.clone();
+    assert_eq!(call(table), Err(error));
+    assert_eq!(*table, before);
+}
+
+#[test]
+fn reading() {
+    let mut buffer = [0; MAX_PAYLOAD];
+    let found = next(&T2, 0, &mut buffer).unwrap().unwrap();
+    let id = found.slave_id().unwrap();
+    let expected = SlaveId {
+        product: 888_888,
+        device: 2_344_630,
+        week: 17,
+        serial: 116_406,
+    };
+    assert_eq!(id, expected);
+    assert_eq!(id.identifiers(), ID);
+    for other in [P1, D1] {
+        let found = next(&other, 0, &mut buffer).unwrap().unwrap();
+        assert_eq!(found.slave_id(), Err(Error::NotSlaveId));
+    }
+}
+
+/// Destination, source and the version of a telegram are free, all else isn't.
+#[test]
+fn what_is_a_response() {
+    let payload = [0xFF, 0xFF, 0xFF, 0xFF, 0xFF, 0xFF, 0x00];
+    let header = Header::telegram(0x8080, 0xFFFF, 0x23);
+    let id = read_slave_id(header, &payload).unwrap();
+    assert_eq!((id.product, id.device), (0xFF_FFFF, 0xFF_FFFF));
+    assert_eq!((id.week, id.serial), (127, 131_071));
+    let other = Header::telegram_31(0, 0, 0x23);
+    assert_eq!(read_slave_id(other, &payload), Ok(id));
+
+    let not = |header, payload: &[u8]| {
+        assert_eq!(read_slave_id(header, payload), Err(Error::NotSlaveId));
+    };
+    not(Header::packet(0, 0, 0x23), &payload);
+    not(Header::datagram(0, 0, 0x23), &payload);
+    not(Header::telegram(0, 0, 0x22), &payload);
+    let command = 0x0123;
+    not(Header { command, ..header }, &payload);
+    not(header, &payload[..6]);
+    not(header, &[0; 8]);
+    not(header, &[]);
+    not(header, &[1, 2, 3, 4, 5, 6, 7]);
+}
+
+#[test]
+fn writing() {
+    let mut out = [0xEE; 18];
+    assert_eq!(write_slave_id(0x7731, 0x2010, ID, &mut out), Ok(17));
+    assert_eq!(out[..17], T2);
+    assert_eq!(out[17], 0xEE);
+    out = [0xEE; 18];
+    let mut not = |destination, source, identifiers, room, error| {
+        let refused = write_slave_id(destination, source, identifiers, &mut out[..room]);
+        assert_eq!(refused, Err(error));
+        assert_eq!(out, [0xEE; 18]);
+    };
+    let (product, device) = (1 << 24, u32::MAX);
+    let wide = [Identifiers { product, ..ID }, Identifiers { device, ..ID }];
+    // What comes later in the order is wrong too.
+    not(0x80, 0, wide[0], 0, Error::NotSlaveId);
+    not(0, 0x8000, wide[1], 16, Error::NotSlaveId);
+    not(0x80, 0, ID, 0, Error::HighAddress);
+    not(0, 0x8000, ID, 16, Error::HighAddress);
+    not(0x7731, 0x2010, ID, 16, Error::OutputTooShort);
+    not(0x7731, 0x2010, ID, 0, Error::OutputTooShort);
+}
+
+#[test]
+fn entering() {
+    let mut table = full();
+    let expected = addresses().map(slave);
+    assert_eq!(entries(&table), expected);
+    assert!(table.slaves().eq(expected));
+    for entry in expected {
+        assert_eq!(table.find(entry.address), Ok(entry.identifiers()));
+    }
+    // The lowest free entry is taken.
+    for index in [20, 3, 31] {
+        assert_eq!(table.remove(expected[index].address), Ok(()));
+    }
+    for (address, index) in [(0x2F7F, 3), (0x201F, 20), (0x207F, 31)] {
+        assert_eq!(table.enter(slave(address)), Ok(()));
+        assert_eq!(entries(&table)[index], slave(address));
+    }
+    refused(&mut table, Error::TableFull, |table| {
+        table.enter(slave(0x2F70))
+    });
+}
+
+#[test]
+fn order_when_entering() {
+    let wide = |address| Slave {
+        address,
+        product: 1 << 24,
+        device: 0,
+    };
+    // Also an address that no slave has can stand in a table that was brought in.
+    let mut brought = addresses().map(slave);
+    brought[5].address = 0x2005;
+    let mut table = SlaveTable::from(brought);
+    refused(&mut table, Error::NotSlaveAddress, |table| {
+        table.enter(wide(0x2005))
+    });
+    refused(&mut table, Error::NotSlaveId, |table| {
+        table.enter(wide(0x2010))
+    });
+    refused(&mut table, Error::AddressTaken, |table| {
+        table.enter(slave(0x2010))
+    });
+    refused(&mut table, Error::TableFull, |table| {
+        table.enter(slave(0x2F70))
+    });
+}
+
+/// 0x2000 is for all slaves, up to 0x200F there is none; bits 7 and 15 are always 0.
+#[test]
+fn addresses_of_slaves() {
+    let slaves = (0..=u16::MAX).filter(|&address| {
+        let entered = SlaveTable::new().enter(slave(address));
+        assert!(entered.is_ok() || entered == Err(Error::NotSlaveAddress));
+        entered.is_ok()
+    });
+    let groups = (0x20..0x30u16).flat_map(|high| (0..8).map(move |low| high << 8 | low << 4));
+    let expected = groups
+        .filter(|group| *group != 0x2000)
+        .flat_map(|group| group..group + 0x10);
+    assert!(slaves.eq(expected));
+}
+
+#[test]
+fn changing_an_address() {
+    let mut table = full();
+    let mut expected = addresses().map(slave);
+    let (from, taken) = (expected[7].address, expected[9].address);
+    refused(&mut table, Error::NotSlaveAddress, |table| {
+        table.change_address(0x2F70, 0x2000)
+    });
+    refused(&mut table, Error::NoSuchAddress, |table| {
+        table.change_address(0x2F70, taken)
+    });
+    refused(&mut table, Error::NoSuchAddress, |table| {
+        table.change_address(0, 0x2F70)
+    });
+    refused(&mut table, Error::AddressTaken, |table| {
+        table.change_address(from, taken)
+    });
+    assert_eq!(table.change_address(from, from), Ok(()));
+    assert_eq!(entries(&table), expected);
+    assert_eq!(table.change_address(from, 0x2F70), Ok(()));
+    expected[7].address = 0x2F70;
+    assert_eq!(entries(&table), expected);
+    assert_eq!(table.find(from), Err(Error::NoSuchAddress));
+    assert_eq!(table.find(0x2F70), Ok(slave(from).identifiers()));
+}
+
+#[test]
+fn removing() {
+    let mut table = full();
+    let mut expected = addresses().map(slave);
+    for address in [0, 0x2F70, 0xFFFF] {
+        refused(&mut table, Error::NoSuchAddress, |table| {
+            table.remove(address)
+        });
+    }
+    let address = expected[12].address;
+    assert_eq!(table.remove(address), Ok(()));
+    expected[12] = Slave::default();
+    assert_eq!(entries(&table), expected);
+    assert_eq!(table.slaves().count(), SLAVES - 1);
+    refused(&mut table, Error::NoSuchAddress, |table| {
+        table.remove(address)
+    });
+}
+
+/// A free entry is never found, whatever it has besides its address.
+#[test]
+fn nothing_is_found_at_address_0() {
+    let mut brought = [Slave::default(); SLAVES];
+    brought[4] = slave(0);
+    let mut table = SlaveTable::from(brought);
+    assert_eq!(table.find(0), Err(Error::NoSuchAddress));
+    refused(&mut table, Error::NoSuchAddress, |table| table.remove(0));
+    assert_eq!(table.slaves().next(), None);
+    assert_eq!(SlaveTable::default().find(0), Err(Error::NoSuchAddress));
+}
+
+/// Of an address that stands twice the entry with the lower index counts.
+#[test]
+fn an_address_twice() {
+    let mut brought = [Slave::default(); SLAVES];
+    brought[4] = slave(0x2010);
+    brought[9] = Slave {
+        product: 0xFFFF_FFFF,
+        ..slave(0x2010)
+    };
+    let mut table = SlaveTable::from(brought);
+    assert_eq!(table.find(0x2010), Ok(brought[4].identifiers()));
+    assert_eq!(table.change_address(0x2010, 0x2011), Ok(()));
+    assert_eq!(table.find(0x2011), Ok(brought[4].identifiers()));
+    assert_eq!(table.find(0x2010), Ok(brought[9].identifiers()));
+    refused(&mut table, Error::AddressTaken, |table| {
+        table.change_address(0x2010, 0x2011)
+    });
+    assert_eq!(table.remove(0x2010), Ok(()));
+    assert_eq!(table.find(0x2010), Err(Error::NoSuchAddress));
+    assert!(table.slaves().eq([Slave {
+        address: 0x2011,
+        ..brought[4]
+    }]));
+}
