@@ -9,7 +9,7 @@ use reference::{Header, Validation};
 pub type Class = (&'static str, fn(&mut Checker) -> Checked<()>);
 
 /// The classes of random cases.
-pub const CLASSES: [Class; 22] = [
+pub const CLASSES: [Class; 24] = [
     ("valid", |c| c.random_recording(recordings::recording)),
     ("one bit", |c| c.random_recording(recordings::one_bit)),
     ("one byte", |c| c.random_recording(recordings::one_byte)),
@@ -36,6 +36,8 @@ pub const CLASSES: [Class; 22] = [
     ("receive: resets", Checker::receive_with_resets),
     ("receive: hostile", Checker::receive_hostile),
     ("receive: wrapper", Checker::receive_wrapped),
+    ("slave IDs", Checker::random_slave_id),
+    ("slaves: runs", Checker::random_slaves),
 ];
 
 /// The records of random recordings by how many of their blocks have unused septet bits; those of a
@@ -445,6 +447,12 @@ impl Checker {
         self.every_announcement()?;
         self.every_two_cuts()?;
         self.every_block_length()?;
+        self.every_slave_id()?;
+        self.every_slave_address()?;
+        self.every_two_entries()?;
+        self.every_table_length()?;
+        self.every_identifier_width()?;
+        self.many_slaves()?;
         for byte in 0..=255 {
             self.checksum(&[byte])?;
             for at in 0..6 {

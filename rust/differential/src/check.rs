@@ -4,7 +4,9 @@ use crate::library::{self, Receiver};
 use crate::naive;
 use crate::recordings::{MAX_PAYLOAD, MAX_STREAM};
 use crate::rng::Rng;
+use crate::slaves::{Operation, Table};
 use reference::{Count, Fault, Found, Header, Part, Received, Validation, Written};
+use reference::{Slave, SlaveFound, SlaveId};
 use std::collections::BTreeMap;
 use std::fmt;
 use std::fs::File;
@@ -148,6 +150,9 @@ pub struct Checker {
     pub numbers: [u64; LAST_ERROR + 1],
     pub verdicts: [u64; LAST_VERDICT + 1],
     pub cases: BTreeMap<&'static str, u64>,
+    /// How often a function of slaves gave a refusal, 0 for success, and how often another applied behind
+    /// it.
+    pub orders: BTreeMap<(&'static str, u32, u32), u64>,
     /// Takes the call about to be made, to name it if it does not come back.
     trace: Option<File>,
 }
@@ -160,6 +165,7 @@ impl Checker {
             numbers: [0; LAST_ERROR + 1],
             verdicts: [0; LAST_VERDICT + 1],
             cases: BTreeMap::new(),
+            orders: BTreeMap::new(),
             trace,
         }
     }
@@ -538,6 +544,72 @@ impl Checker {
         )?;
         self.number(answer.number);
         Ok(answer)
+    }
+
+    pub fn read_slave_id(&mut self, header: Header, payload: &[u8]) -> Checked<SlaveId> {
+        let answer = self.same(
+            || {
+                let payload = hex(payload);
+                format!("vbus_read_slave_id({header:X?}, payload = {payload})")
+            },
+            || library::read_slave_id(header, payload),
+            || reference::read_slave_id(header, payload),
+        )?;
+        self.number(answer.number);
+        Ok(answer)
+    }
+
+    pub fn write_slave_id(
+        &mut self,
+        destination: u16,
+        source: u16,
+        [product, device]: [u32; 2],
+        room: usize,
+    ) -> Checked<(Written, Vec<u8>)> {
+        let output = Output::new(&mut self.rng, room);
+        let (written, Hex(left)) = self.same(
+            || {
+                format!(
+                    "vbus_write_slave_id(destination = {destination:X}, source = {source:X}, \
+                     product = {product:X}, device = {device:X}, room = {room})"
+                )
+            },
+            || {
+                output
+                    .lend(|out| library::write_slave_id(destination, source, product, device, out))
+            },
+            || {
+                output.lend(|out| {
+                    reference::write_slave_id(destination, source, product, device, out)
+                })
+            },
+        )?;
+        self.number(written.number);
+        let stream = left[output.from..output.from + written.length].to_vec();
+        Ok((written, stream))
+    }
+
+    /// One call on a table of slaves: the answer, and the table afterwards.
+    pub fn on_table(
+        &mut self,
+        table: &mut Table,
+        operation: Operation,
+    ) -> Checked<(SlaveFound, Vec<Slave>)> {
+        let before = table.slaves();
+        let (answer, after) = self.same(
+            || format!("{operation:X?} on {} entries {before:X?}", before.len()),
+            || {
+                let answer = operation.by_library(table.lent());
+                (answer, table.slaves())
+            },
+            || {
+                let mut slaves = before.clone();
+                let answer = operation.by_reference(&mut slaves);
+                (answer, slaves)
+            },
+        )?;
+        self.number(answer.number);
+        Ok((answer, after))
     }
 
     /// Fails with `what` unless `condition` holds.

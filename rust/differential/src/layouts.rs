@@ -1,8 +1,9 @@
 //! Calls whose answers have another value in every field, so that a wrong layout shows.
 
 use crate::check::{Checked, Checker};
-use crate::library::{self, Receiver};
+use crate::library::{self, Entry, Receiver};
 use reference::{Count, Fault, Found, Header, Part, Received, Septets, Validation, Written};
+use reference::{Slave, SlaveFound, SlaveId};
 use std::mem::{offset_of, size_of, transmute};
 
 const HEADER: Header = Header {
@@ -33,6 +34,18 @@ const SECTIONS: [u8; 32] = [
     1, 0x08, 0, 0, 1, 2, 3, 4, // four relays
     4, 0x01, 0, 0, 1, 2, 3, 4, 5, 6, 7, 8, 9, 10, 11, 12, 13, 14, 15, 16,
 ];
+
+/// A telegram to 0x1234 from 0x5678 with product 0xA3B2C1 and device 0xF7E5D4, worked out by hand.
+const SLAVE_ID: [u8; 17] = [
+    0xAA, 0x34, 0x12, 0x78, 0x56, 0x30, 0x23, 0x18, // header
+    0x41, 0x32, 0x23, 0x54, 0x65, 0x77, 0x00, 0x3F, 0x7A, // C1 B2 A3 D4 E5 F7 00
+];
+
+const SLAVE: Slave = Slave {
+    address: 0x2345,
+    product: 0xA3_B2C1,
+    device: 0xF7_E5D4,
+};
 
 /// `Found` with the flag as the byte that it is.
 #[repr(C)]
@@ -110,7 +123,11 @@ impl Checker {
         self.padding()?;
         self.flag()?;
         self.fault_flags()?;
-        self.received_flag()
+        self.received_flag()?;
+        self.slave_offsets()?;
+        self.slave_ids()?;
+        self.slaves()?;
+        self.slave_by_registers()
     }
 
     fn expect<T: PartialEq + std::fmt::Debug>(
@@ -139,8 +156,12 @@ impl Checker {
             size_of::<vbus_sys::Receiver>(),
             size_of::<vbus_sys::Received>(),
             size_of::<vbus_sys::Fault>(),
+            size_of::<vbus_sys::SlaveId>(),
+            size_of::<vbus_sys::Slave>(),
+            size_of::<vbus_sys::SlaveFound>(),
+            size_of::<Entry>(),
         ];
-        let expected = [8, 24, 40, 16, 16, 24, 32, 16, 64, 40];
+        let expected = [8, 24, 40, 16, 16, 24, 32, 16, 64, 40, 20, 12, 12, 12];
         self.expect("sizes on x86-64", sizes, expected)?;
         let offsets = [
             offset_of!(vbus_sys::Validation, verdict),
@@ -524,6 +545,137 @@ impl Checker {
                 answer.end,
             );
             self.expect("vbus_receive, with the flag as a byte", fields, expected)?;
+        }
+        Ok(())
+    }
+    fn slave_offsets(&mut self) -> Checked<()> {
+        let offsets = [
+            offset_of!(vbus_sys::SlaveId, number),
+            offset_of!(vbus_sys::SlaveId, product),
+            offset_of!(vbus_sys::SlaveId, device),
+            offset_of!(vbus_sys::SlaveId, week),
+            offset_of!(vbus_sys::SlaveId, serial),
+        ];
+        self.expect("offsets of SlaveId on x86-64", offsets, [0, 4, 8, 12, 16])?;
+        let offsets = [
+            offset_of!(vbus_sys::SlaveFound, number),
+            offset_of!(vbus_sys::SlaveFound, product),
+            offset_of!(vbus_sys::SlaveFound, device),
+        ];
+        self.expect("offsets of SlaveFound on x86-64", offsets, [0, 4, 8])?;
+        let offsets = [
+            offset_of!(vbus_sys::Slave, address),
+            offset_of!(vbus_sys::Slave, product),
+            offset_of!(vbus_sys::Slave, device),
+        ];
+        self.expect("offsets of Slave on x86-64", offsets, [0, 4, 8])?;
+        let offsets = [
+            offset_of!(Entry, address),
+            offset_of!(Entry, product),
+            offset_of!(Entry, device),
+        ];
+        self.expect("offsets of an entry of these tests", offsets, [0, 4, 8])
+    }
+
+    fn slave_ids(&mut self) -> Checked<()> {
+        let header = Header {
+            version: 0x30,
+            destination: 0x1234,
+            source: 0x5678,
+            command: 0x23,
+        };
+        let payload = [0xC1, 0xB2, 0xA3, 0xD4, 0xE5, 0xF7, 0x00];
+        let id = SlaveId {
+            number: 0,
+            product: 0xA3_B2C1,
+            device: 0xF7_E5D4,
+            week: 0x7B,
+            serial: 0x1_E5D4,
+        };
+        let read = library::read_slave_id(header, &payload);
+        self.expect("vbus_read_slave_id", read, id)?;
+        let refused = SlaveId {
+            number: 18,
+            ..SlaveId::default()
+        };
+        let read = library::read_slave_id(HEADER, &payload);
+        self.expect("vbus_read_slave_id of a packet", read, refused)?;
+        let mut out = [0xEE; 19];
+        let written = library::write_slave_id(0x1234, 0x5678, id.product, id.device, &mut out);
+        let expected = Written {
+            number: 0,
+            length: 17,
+        };
+        self.expect("vbus_write_slave_id", written, expected)?;
+        self.expect("vbus_write_slave_id's stream", &out[..17], &SLAVE_ID[..])?;
+        self.expect("the bytes behind it", &out[17..], &[0xEE; 2][..])
+    }
+
+    fn slaves(&mut self) -> Checked<()> {
+        let mut table = [Entry::new(Slave::default(), 0x5A5A); 32];
+        let entered = library::slave_enter(&mut table, SLAVE);
+        self.expect("vbus_slave_enter", entered, 0)?;
+        self.expect("vbus_slave_enter's entry", table[0].slave(), SLAVE)?;
+        let found = library::slave_find(&table, SLAVE.address);
+        let expected = SlaveFound {
+            number: 0,
+            product: SLAVE.product,
+            device: SLAVE.device,
+        };
+        self.expect("vbus_slave_find", found, expected)?;
+        let absent = SlaveFound {
+            number: 17,
+            ..SlaveFound::default()
+        };
+        let found = library::slave_find(&table, 0x2346);
+        self.expect("vbus_slave_find of another", found, absent)?;
+        let changed = library::slave_change_address(&mut table, SLAVE.address, 0x2F67);
+        self.expect("vbus_slave_change_address", changed, 0)?;
+        let elsewhere = Slave {
+            address: 0x2F67,
+            ..SLAVE
+        };
+        self.expect("its entry", table[0].slave(), elsewhere)?;
+        let removed = library::slave_remove(&mut table, SLAVE.address);
+        self.expect("vbus_slave_remove of the old address", removed, 17)?;
+        let removed = library::slave_remove(&mut table, 0x2F67);
+        self.expect("vbus_slave_remove", removed, 0)?;
+        self.expect("its entry", table[0].slave(), Slave::default())?;
+        let free = Entry::new(Slave::default(), 0x5A5A);
+        self.expect("all other entries", &table[1..], &[free; 31][..])
+    }
+
+    /// The padding of an entry that is handed over may hold anything, and so may the upper half of a
+    /// register that has an address or an identifier.
+    fn slave_by_registers(&mut self) -> Checked<()> {
+        type BySlave = unsafe extern "C" fn(*mut vbus_sys::Slave, usize, vbus_sys::Slave) -> u32;
+        type ByWords = unsafe extern "C" fn(*mut vbus_sys::Slave, usize, u64, u64) -> u32;
+        type ByAddress =
+            unsafe extern "C" fn(*const vbus_sys::Slave, usize, u16) -> vbus_sys::SlaveFound;
+        type ByWord =
+            unsafe extern "C" fn(*const vbus_sys::Slave, usize, u64) -> vbus_sys::SlaveFound;
+        // SAFETY: a struct of twelve bytes is passed in two registers, as two numbers of 64 bits are, and
+        // a number of 16 bits in the lower half of one.
+        let enter = unsafe { transmute::<BySlave, ByWords>(vbus_sys::vbus_slave_enter) };
+        // SAFETY: as above.
+        let find = unsafe { transmute::<ByAddress, ByWord>(vbus_sys::vbus_slave_find) };
+        for padding in [0, 0x5A, 0x80, 0xFF] {
+            let padding = u64::from_le_bytes([padding; 8]);
+            let mut table = [vbus_sys::Slave::default(); 32];
+            let first =
+                u64::from(SLAVE.address) | padding << 48 >> 32 | u64::from(SLAVE.product) << 32;
+            let second = u64::from(SLAVE.device) | padding << 32;
+            // SAFETY: pointer and count are those of an array.
+            let number = unsafe { enter(table.as_mut_ptr(), table.len(), first, second) };
+            self.expect("vbus_slave_enter with padding", number, 0)?;
+            let entered = library::slave(SLAVE);
+            self.expect("the entry entered", table[0], entered)?;
+            let address = u64::from(SLAVE.address) | padding << 32;
+            // SAFETY: pointer and count are those of an array.
+            let found = unsafe { find(table.as_ptr(), table.len(), address) };
+            let found = (found.number, found.product, found.device);
+            let expected = (0, SLAVE.product, SLAVE.device);
+            self.expect("vbus_slave_find with padding", found, expected)?;
         }
         Ok(())
     }

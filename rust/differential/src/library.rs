@@ -1,6 +1,7 @@
 //! The archive's exports with the reference's types, so that answers can be compared.
 
 use reference::{Count, Fault, Found, Header, Part, Received, Septets, Validation, Written};
+use reference::{Slave, SlaveFound, SlaveId};
 
 /// A receiver between two calls, but for its memory.
 pub use vbus_sys::Receiver;
@@ -166,4 +167,88 @@ pub fn element(head: Header, payload: &[u8], section: usize, element: usize) -> 
     // SAFETY: pointer and count are those of a slice.
     let answer = unsafe { vbus_sys::vbus_element(header(head), pointer, n, section, element) };
     as_reference!(answer => Part { number, start, length })
+}
+
+pub fn read_slave_id(head: Header, payload: &[u8]) -> SlaveId {
+    let (pointer, n) = (payload.as_ptr(), payload.len());
+    // SAFETY: pointer and count are those of a slice.
+    let answer = unsafe { vbus_sys::vbus_read_slave_id(header(head), pointer, n) };
+    as_reference!(answer => SlaveId { number, product, device, week, serial })
+}
+
+pub fn write_slave_id(
+    destination: u16,
+    source: u16,
+    product: u32,
+    device: u32,
+    out: &mut [u8],
+) -> Written {
+    let (to, room) = (out.as_mut_ptr(), out.len());
+    // SAFETY: pointer and count are those of a slice.
+    let answer =
+        unsafe { vbus_sys::vbus_write_slave_id(destination, source, product, device, to, room) };
+    as_reference!(answer => Written { number, length })
+}
+
+/// An entry of a table of slaves as it lies in memory: the two bytes behind the address stand for
+/// nothing.
+#[repr(C)]
+#[derive(Clone, Copy, PartialEq, Eq, Debug)]
+pub struct Entry {
+    pub address: u16,
+    pub padding: u16,
+    pub product: u32,
+    pub device: u32,
+}
+
+impl Entry {
+    pub fn new(slave: Slave, padding: u16) -> Entry {
+        Entry {
+            address: slave.address,
+            padding,
+            product: slave.product,
+            device: slave.device,
+        }
+    }
+
+    pub fn slave(self) -> Slave {
+        Slave {
+            address: self.address,
+            product: self.product,
+            device: self.device,
+        }
+    }
+}
+
+pub fn slave(slave: Slave) -> vbus_sys::Slave {
+    vbus_sys::Slave {
+        address: slave.address,
+        product: slave.product,
+        device: slave.device,
+    }
+}
+
+pub fn slave_enter(table: &mut [Entry], entry: Slave) -> u32 {
+    let (pointer, n) = (table.as_mut_ptr().cast(), table.len());
+    // SAFETY: pointer and count are those of a slice of entries.
+    unsafe { vbus_sys::vbus_slave_enter(pointer, n, slave(entry)) }
+}
+
+pub fn slave_find(table: &[Entry], address: u16) -> SlaveFound {
+    let (pointer, n) = (table.as_ptr().cast(), table.len());
+    // SAFETY: pointer and count are those of a slice of entries.
+    let answer = unsafe { vbus_sys::vbus_slave_find(pointer, n, address) };
+    as_reference!(answer => SlaveFound { number, product, device })
+}
+
+pub fn slave_change_address(table: &mut [Entry], from: u16, to: u16) -> u32 {
+    let (pointer, n) = (table.as_mut_ptr().cast(), table.len());
+    // SAFETY: pointer and count are those of a slice of entries.
+    unsafe { vbus_sys::vbus_slave_change_address(pointer, n, from, to) }
+}
+
+pub fn slave_remove(table: &mut [Entry], address: u16) -> u32 {
+    let (pointer, n) = (table.as_mut_ptr().cast(), table.len());
+    // SAFETY: pointer and count are those of a slice of entries.
+    unsafe { vbus_sys::vbus_slave_remove(pointer, n, address) }
 }

@@ -15,6 +15,8 @@ mod naive;
 mod receiver;
 mod recordings;
 mod rng;
+mod slave_ids;
+mod slaves;
 
 use cases::CLASSES;
 use check::{Checked, Checker, Failure};
@@ -165,7 +167,8 @@ fn compare(
 
 /// Every refusal and every verdict occurred, the naive reading and every class of receivers found
 /// records, these had unused septet bits in none, one, some and all of their blocks, positions came to
-/// the limit, and there were faults of every class, or the run has shown less than it claims.
+/// the limit, there were faults of every class, and tables of slaves started from each class and came to
+/// each refusal, also where others applied behind it, or the run has shown less than it claims.
 fn complete(checker: &mut Checker) -> Checked<()> {
     let errors = Error::ALL.iter().map(|error| error.number() as usize);
     for number in errors.chain([0]) {
@@ -182,10 +185,18 @@ fn complete(checker: &mut Checker) -> Checked<()> {
     let naive = ["naive recordings", "naive records"];
     let limits = receiver::LIMITS.into_iter().flatten();
     let receivers = receiver::RECORDS.into_iter().chain(limits);
-    let classes = naive.into_iter().chain(receivers);
-    for class in classes.chain(cases::UNUSED).chain(faults::counted()) {
+    let classes = naive.into_iter().chain(receivers).chain(cases::UNUSED);
+    for class in classes.chain(faults::counted()).chain(slaves::counted()) {
         let some = checker.cases.get(class).is_some_and(|count| *count > 0);
         checker.holds(some, || format!("there are {class}"))?;
+    }
+    let calls = checker.cases.get(slaves::CALLS).copied().unwrap_or(0);
+    checker.holds(calls >= slaves::LEAST, || format!("{calls} are many calls"))?;
+    for (function, first, behind) in slaves::orders() {
+        let some = checker.orders.contains_key(&(function, first, behind));
+        checker.holds(some, || {
+            format!("{function} gives {first}, also where {behind} applies too")
+        })?;
     }
     Ok(())
 }
@@ -195,7 +206,15 @@ fn report(checker: &Checker, started: Instant) {
         println!("{class:20} {count:>12}");
     }
     for (number, count) in checker.numbers.iter().enumerate() {
-        println!("answer {number:<13} {count:>12}");
+        // Some numbers between the refusals' are those of none.
+        if number == 0 || Error::from_number(number as u32).is_some() {
+            println!("answer {number:<13} {count:>12}");
+        }
+    }
+    for ((function, number, behind), count) in &checker.orders {
+        if *behind == 0 {
+            println!("{function:17} {number:<2} {count:>12}");
+        }
     }
     for (verdict, count) in checker.verdicts.iter().enumerate() {
         println!("verdict V{verdict:<11} {count:>12}");
