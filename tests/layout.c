@@ -1,7 +1,7 @@
 /*
  * Calls every export with values that differ from field to field, so that a field at the wrong place or of the wrong
  * width shows; every refusal with its buffers filled beforehand, which must stay; and every slice as NULL with count 0.
- * Compares the header's names with document 01's numbers. The last line is 'N passed, M failed'.
+ * Compares the header's names with the papers' numbers. The last line is 'N passed, M failed'.
  */
 #include <stdio.h>
 #include <string.h>
@@ -94,8 +94,17 @@ static int no_fault(vbus_fault a) {
     return (int)a.found == 0 && a.place == 0 && a.verdict == 0 && a.offset == 0 && (int)a.has_byte == 0 && a.byte == 0 &&
            nothing_wanted(a);
 }
+static int slave_id_is(vbus_slave_id a, uint32_t number, uint32_t product, uint32_t device, uint8_t week, uint32_t serial) {
+    return a.number == number && a.product == product && a.device == device && a.week == week && a.serial == serial;
+}
+static int slave_is(vbus_slave a, uint16_t address, uint32_t product, uint32_t device) {
+    return a.address == address && a.product == product && a.device == device;
+}
+static int slave_found_is(vbus_slave_found a, uint32_t number, uint32_t product, uint32_t device) {
+    return a.number == number && a.product == product && a.device == device;
+}
 
-/* Document 01's numbers, written out once more: a name that has another one in the header shows here. */
+/* The papers' numbers, written out once more: a name that has another one in the header shows here. */
 static const struct {
     const char *name;
     long here, document;
@@ -118,6 +127,12 @@ static const struct {
     NUMBER(VBUS_UNKNOWN_SECTION_TYPE, 11),
     NUMBER(VBUS_POSITION_OVERFLOW, 12),
     NUMBER(VBUS_PARTIAL_ELEMENT, 13),
+    NUMBER(VBUS_NOT_SLAVE_ADDRESS, 14),
+    NUMBER(VBUS_ADDRESS_TAKEN, 15),
+    NUMBER(VBUS_TABLE_FULL, 16),
+    NUMBER(VBUS_NO_SUCH_ADDRESS, 17),
+    NUMBER(VBUS_NOT_SLAVE_ID, 18),
+    NUMBER(VBUS_WRONG_TABLE_LENGTH, 24),
     NUMBER(VBUS_VERDICT_WHOLE, 0),
     NUMBER(VBUS_VERDICT_NO_SYNC, 1),
     NUMBER(VBUS_VERDICT_HIGH_BYTE, 2),
@@ -127,6 +142,7 @@ static const struct {
     NUMBER(VBUS_VERDICT_ENDED, 7),
     NUMBER(VBUS_MAX_PAYLOAD, 508),
     NUMBER(VBUS_MAX_STREAM, 772),
+    NUMBER(VBUS_SLAVES, 32),
 };
 
 static void names(void) {
@@ -158,6 +174,12 @@ static void layouts(void) {
           offsetof(vbus_part, length) == 16);
     CHECK(sizeof(vbus_septets) == 32 && offsetof(vbus_septets, number) == 0 && offsetof(vbus_septets, bytes) == 4 &&
           offsetof(vbus_septets, length) == 16 && offsetof(vbus_septets, septet) == 24);
+    CHECK(sizeof(vbus_slave_id) == 20 && offsetof(vbus_slave_id, number) == 0 && offsetof(vbus_slave_id, product) == 4 &&
+          offsetof(vbus_slave_id, device) == 8 && offsetof(vbus_slave_id, week) == 12 && offsetof(vbus_slave_id, serial) == 16);
+    CHECK(sizeof(vbus_slave) == 12 && offsetof(vbus_slave, address) == 0 && offsetof(vbus_slave, product) == 4 &&
+          offsetof(vbus_slave, device) == 8);
+    CHECK(sizeof(vbus_slave_found) == 12 && offsetof(vbus_slave_found, number) == 0 &&
+          offsetof(vbus_slave_found, product) == 4 && offsetof(vbus_slave_found, device) == 8);
     CHECK(sizeof(bool) == 1 && WIDTH(vbus_validation, verdict) == 1 && WIDTH(vbus_validation, offset) == 8 &&
           WIDTH(vbus_validation, unused_septets) == 8 && WIDTH(vbus_found, number) == 4 &&
           WIDTH(vbus_found, position) == 8 && WIDTH(vbus_found, payload_length) == 8 && WIDTH(vbus_fault, place) == 8 &&
@@ -167,7 +189,9 @@ static void layouts(void) {
           WIDTH(vbus_received, payload_length) == 8 && WIDTH(vbus_written, number) == 4 &&
           WIDTH(vbus_written, length) == 8 && WIDTH(vbus_count, number) == 4 && WIDTH(vbus_count, count) == 8 &&
           WIDTH(vbus_part, number) == 4 && WIDTH(vbus_part, length) == 8 && WIDTH(vbus_septets, number) == 4 &&
-          WIDTH(vbus_septets, septet) == 1);
+          WIDTH(vbus_septets, septet) == 1 && WIDTH(vbus_slave_id, number) == 4 && WIDTH(vbus_slave_id, device) == 4 &&
+          WIDTH(vbus_slave_id, week) == 1 && WIDTH(vbus_slave_id, serial) == 4 && WIDTH(vbus_slave, address) == 2 &&
+          WIDTH(vbus_slave, device) == 4 && WIDTH(vbus_slave_found, number) == 4 && WIDTH(vbus_slave_found, device) == 4);
 }
 
 static void checksum_and_septets(void) {
@@ -579,6 +603,171 @@ static void refused_blocks(void) {
     CHECK(memcmp(payload, before, BLOCKS) == 0);
 }
 
+/* Document 02's slave: product 888888, week 17, number 116406 is T2 of document 01, `telegram` here. */
+static void slave_ids(void) {
+    const uint32_t device = 17 * 131072 + 116406;
+    CHECK(slave_id_is(vbus_read_slave_id(telegram_header(), telegram_payload, 7), 0, 888888, device, 17, 116406));
+    /* any addresses; every field and every byte of the identifiers differs from the others */
+    const uint8_t other[8] = {0xC1, 0xB2, 0xA3, 0xD4, 0xE5, 0xF7, 0x00, 0x00};
+    const vbus_header high = header(VBUS_TELEGRAM_31, 0xFFFF, 0x8080, 0x23);
+    CHECK(slave_id_is(vbus_read_slave_id(high, other, 7), 0, 0xA3B2C1, 0xF7E5D4, 0x7B, 0x1E5D4));
+
+    uint8_t out[20];
+    paint(out, sizeof out);
+    CHECK(written_is(vbus_write_slave_id(0x7731, 0x2010, 888888, device, out, sizeof out), 0, 17));
+    CHECK(memcmp(out, telegram, 17) == 0 && painted(out, 17, sizeof out));
+    paint(out, sizeof out);
+    CHECK(written_is(vbus_write_slave_id(0x7731, 0x2010, 888888, device, out, 17), 0, 17));
+    CHECK(memcmp(out, telegram, 17) == 0 && painted(out, 17, sizeof out));
+    CHECK(written_is(vbus_write_slave_id(0x1234, 0x5678, 0xFFFFFF, 0xFFFFFF, out, 17), 0, 17));
+    CHECK(memcmp(out, "\xAA\x34\x12\x78\x56\x30\x23\x18\x7F\x7F\x7F\x7F\x7F\x7F\x00\x3F\x46", 17) == 0);
+}
+
+static int no_slave_id(vbus_slave_id a) { return slave_id_is(a, VBUS_NOT_SLAVE_ID, 0, 0, 0, 0); }
+
+static void refused_slave_ids(void) {
+    const uint8_t eight[8] = {0x38, 0x90, 0x0D, 0xB6, 0xC6, 0x23, 0x00, 0x00};
+    const uint8_t last[7] = {0x38, 0x90, 0x0D, 0xB6, 0xC6, 0x23, 0x01};
+    CHECK(no_slave_id(vbus_read_slave_id(header(VBUS_PACKET, 0x7731, 0x2010, 0x23), eight, 7)));
+    CHECK(no_slave_id(vbus_read_slave_id(header(VBUS_DATAGRAM, 0x7731, 0x2010, 0x23), eight, 7)));
+    CHECK(no_slave_id(vbus_read_slave_id(header(0x32, 0x7731, 0x2010, 0x23), eight, 7)));
+    CHECK(no_slave_id(vbus_read_slave_id(header(VBUS_TELEGRAM, 0x7731, 0x2010, 0x25), eight, 7)));
+    CHECK(no_slave_id(vbus_read_slave_id(header(VBUS_TELEGRAM, 0x7731, 0x2010, 0x0123), eight, 7)));
+    CHECK(no_slave_id(vbus_read_slave_id(telegram_header(), eight, 6)));
+    CHECK(no_slave_id(vbus_read_slave_id(telegram_header(), eight, 8)));
+    CHECK(no_slave_id(vbus_read_slave_id(telegram_header(), last, 7)));
+
+    /* each with all that comes behind it in the order */
+    uint8_t out[20];
+    paint(out, sizeof out);
+    CHECK(written_is(vbus_write_slave_id(0x0080, 0x2010, 0x1000000, 0, out, 16), VBUS_NOT_SLAVE_ID, 0));
+    CHECK(written_is(vbus_write_slave_id(0x7731, 0x8000, 0, 0xFFFFFFFF, out, 0), VBUS_NOT_SLAVE_ID, 0));
+    CHECK(written_is(vbus_write_slave_id(0x0080, 0x2010, 0, 0, out, 16), VBUS_HIGH_ADDRESS, 0));
+    CHECK(written_is(vbus_write_slave_id(0x7731, 0x8000, 0, 0, out, 17), VBUS_HIGH_ADDRESS, 0));
+    CHECK(written_is(vbus_write_slave_id(0x7731, 0x2010, 0, 0, out, 16), VBUS_OUTPUT_TOO_SHORT, 0));
+    CHECK(painted(out, 0, sizeof out));
+}
+
+static vbus_slave slave(uint16_t address, uint32_t product, uint32_t device) {
+    vbus_slave made;
+    memset(&made, 0xFF, sizeof made);
+    made.address = address;
+    made.product = product;
+    made.device = device;
+    return made;
+}
+
+/* A table of 32 slaves with an entry behind it: 0x2100 to 0x210F, 0x2200 to 0x220F, and 0x2300. */
+#define ENTRIES (VBUS_SLAVES + 1)
+static void fill(vbus_slave table[ENTRIES]) {
+    for (uint16_t i = 0; i < ENTRIES; i++)
+        table[i] = slave((uint16_t)(0x2100 + 0x100 * (i / 16) + i % 16), 0x810000u + i, 0x920000u + i);
+}
+static int filled(const vbus_slave *table, size_t from, size_t to) {
+    for (size_t i = from; i < to; i++)
+        if (!slave_is(table[i], (uint16_t)(0x2100 + 0x100 * (i / 16) + i % 16), 0x810000u + (uint32_t)i, 0x920000u + (uint32_t)i))
+            return 0;
+    return 1;
+}
+
+static void slaves(void) {
+    vbus_slave table[ENTRIES];
+    memset(table, 0, sizeof table);
+    const vbus_slave first = slave(0x2345, 0xA3B2C1, 0xF7E5D4), second = slave(0x2010, 888888, 2344630);
+    CHECK(sizeof vbus_slave_enter(table, VBUS_SLAVES, first) == 4);
+    CHECK(vbus_slave_enter(table, VBUS_SLAVES, first) == 0 && slave_is(table[0], 0x2345, 0xA3B2C1, 0xF7E5D4));
+    CHECK(vbus_slave_enter(table, VBUS_SLAVES, second) == 0 && slave_is(table[1], 0x2010, 888888, 2344630));
+    CHECK(slave_found_is(vbus_slave_find(table, VBUS_SLAVES, 0x2345), 0, 0xA3B2C1, 0xF7E5D4));
+    CHECK(slave_found_is(vbus_slave_find(table, VBUS_SLAVES, 0x2010), 0, 888888, 2344630));
+    CHECK(vbus_slave_change_address(table, VBUS_SLAVES, 0x2345, 0x2F7F) == 0);
+    CHECK(slave_is(table[0], 0x2F7F, 0xA3B2C1, 0xF7E5D4) && slave_is(table[1], 0x2010, 888888, 2344630));
+    CHECK(vbus_slave_change_address(table, VBUS_SLAVES, 0x2F7F, 0x2F7F) == 0 && slave_is(table[0], 0x2F7F, 0xA3B2C1, 0xF7E5D4));
+    CHECK(vbus_slave_remove(table, VBUS_SLAVES, 0x2F7F) == 0 && slave_is(table[0], 0, 0, 0));
+    CHECK(slave_is(table[1], 0x2010, 888888, 2344630));
+    /* the lowest free entry, which is the first again */
+    CHECK(vbus_slave_enter(table, VBUS_SLAVES, first) == 0 && slave_is(table[0], 0x2345, 0xA3B2C1, 0xF7E5D4));
+    for (size_t i = 2; i < ENTRIES; i++) CHECK(slave_is(table[i], 0, 0, 0));
+
+    /* the last entry, and none behind it */
+    fill(table);
+    CHECK(slave_found_is(vbus_slave_find(table, VBUS_SLAVES, 0x220F), 0, 0x81001F, 0x92001F));
+    CHECK(slave_found_is(vbus_slave_find(table, VBUS_SLAVES, 0x2300), VBUS_NO_SUCH_ADDRESS, 0, 0));
+    CHECK(vbus_slave_remove(table, VBUS_SLAVES, 0x220F) == 0 && slave_is(table[31], 0, 0, 0));
+    CHECK(vbus_slave_enter(table, VBUS_SLAVES, first) == 0 && slave_is(table[31], 0x2345, 0xA3B2C1, 0xF7E5D4));
+    CHECK(filled(table, 0, 31) && filled(table, 32, ENTRIES));
+}
+
+/* Tables as no calls leave them: an address twice, of which the lower index counts; an address that no slave has, with
+ * identifiers that are too large; a free entry with identifiers. No other byte of the table changes. */
+static void slaves_brought_in(void) {
+    vbus_slave table[ENTRIES], expected[ENTRIES];
+    const size_t n = VBUS_SLAVES;
+    fill(table);
+    table[20].address = 0x2103;
+    table[8] = slave(0x2008, 0xFFFFFFFF, 0x80000000);
+    table[2].address = 0;
+    memcpy(expected, table, sizeof expected);
+    CHECK(slave_found_is(vbus_slave_find(table, n, 0x2103), 0, 0x810003, 0x920003));
+    CHECK(slave_found_is(vbus_slave_find(table, n, 0x2008), 0, 0xFFFFFFFF, 0x80000000));
+    CHECK(vbus_slave_change_address(table, n, 0x2103, 0x2103) == 0 && slave_is(table[3], 0x2103, 0x810003, 0x920003));
+    CHECK(vbus_slave_change_address(table, n, 0x2103, 0x2400) == 0 && slave_is(table[3], 0x2400, 0x810003, 0x920003));
+    CHECK(slave_found_is(vbus_slave_find(table, n, 0x2103), 0, 0x810014, 0x920014));
+    CHECK(vbus_slave_change_address(table, n, 0x2008, 0x2108) == 0 && slave_is(table[8], 0x2108, 0xFFFFFFFF, 0x80000000));
+    CHECK(vbus_slave_enter(table, n, slave(0x2401, 1, 0x1000000)) == VBUS_NOT_SLAVE_ID);
+    CHECK(slave_is(table[2], 0, 0x810002, 0x920002));
+    CHECK(vbus_slave_enter(table, n, slave(0x2401, 1, 2)) == 0 && slave_is(table[2], 0x2401, 1, 2));
+    memcpy(expected + 2, table + 2, 2 * sizeof *table);
+    memcpy(expected + 8, table + 8, sizeof *table);
+    CHECK(memcmp(table, expected, sizeof table) == 0);
+    table[9].address = table[10].address = expected[10].address = 0xFFFF;
+    CHECK(vbus_slave_remove(table, n, 0xFFFF) == 0 && slave_is(table[9], 0, 0, 0));
+    memcpy(expected + 9, table + 9, sizeof *table);
+    CHECK(memcmp(table, expected, sizeof table) == 0);
+}
+
+/* Each with all that comes behind it in the order; nothing in the table changes. */
+static void refused_slaves(void) {
+    vbus_slave table[ENTRIES], before[ENTRIES];
+    fill(table);
+    table[8].address = 0x2008; /* brought in: no slave has it */
+    memcpy(before, table, sizeof before);
+    const size_t n = VBUS_SLAVES;
+    CHECK(vbus_slave_enter(table, n, slave(0x2008, 0x1000000, 0)) == VBUS_NOT_SLAVE_ADDRESS);
+    CHECK(vbus_slave_enter(table, n, slave(0x0000, 0, 0)) == VBUS_NOT_SLAVE_ADDRESS);
+    CHECK(vbus_slave_enter(table, n, slave(0x2080, 0, 0)) == VBUS_NOT_SLAVE_ADDRESS);
+    CHECK(vbus_slave_enter(table, n, slave(0xA010, 0, 0)) == VBUS_NOT_SLAVE_ADDRESS);
+    CHECK(vbus_slave_enter(table, n, slave(0x3010, 0, 0)) == VBUS_NOT_SLAVE_ADDRESS);
+    CHECK(vbus_slave_enter(table, n, slave(0x2100, 0x1000000, 0)) == VBUS_NOT_SLAVE_ID);
+    CHECK(vbus_slave_enter(table, n, slave(0x2100, 0, 0xFFFFFFFF)) == VBUS_NOT_SLAVE_ID);
+    CHECK(vbus_slave_enter(table, n, slave(0x2100, 0, 0)) == VBUS_ADDRESS_TAKEN);
+    CHECK(vbus_slave_enter(table, n, slave(0x2400, 0, 0)) == VBUS_TABLE_FULL);
+    CHECK(vbus_slave_change_address(table, n, 0x2400, 0x2008) == VBUS_NOT_SLAVE_ADDRESS);
+    CHECK(vbus_slave_change_address(table, n, 0x2008, 0x2008) == VBUS_NOT_SLAVE_ADDRESS);
+    CHECK(vbus_slave_change_address(table, n, 0x2400, 0x2100) == VBUS_NO_SUCH_ADDRESS);
+    CHECK(vbus_slave_change_address(table, n, 0, 0x2400) == VBUS_NO_SUCH_ADDRESS);
+    CHECK(vbus_slave_change_address(table, n, 0x2100, 0x2101) == VBUS_ADDRESS_TAKEN);
+    CHECK(slave_found_is(vbus_slave_find(table, n, 0x2400), VBUS_NO_SUCH_ADDRESS, 0, 0));
+    CHECK(vbus_slave_remove(table, n, 0x2400) == VBUS_NO_SUCH_ADDRESS);
+    const size_t lengths[] = {1, 31, 33};
+    for (size_t i = 0; i < 3; i++) {
+        CHECK(vbus_slave_enter(table, lengths[i], slave(0x2008, 0x1000000, 0)) == VBUS_WRONG_TABLE_LENGTH);
+        CHECK(vbus_slave_enter(table, lengths[i], slave(0x2400, 0, 0)) == VBUS_WRONG_TABLE_LENGTH);
+        CHECK(slave_found_is(vbus_slave_find(table, lengths[i], 0x2100), VBUS_WRONG_TABLE_LENGTH, 0, 0));
+        CHECK(slave_found_is(vbus_slave_find(table, lengths[i], 0), VBUS_WRONG_TABLE_LENGTH, 0, 0));
+        CHECK(vbus_slave_change_address(table, lengths[i], 0x2100, 0x2400) == VBUS_WRONG_TABLE_LENGTH);
+        CHECK(vbus_slave_change_address(table, lengths[i], 0, 0) == VBUS_WRONG_TABLE_LENGTH);
+        CHECK(vbus_slave_remove(table, lengths[i], 0x2100) == VBUS_WRONG_TABLE_LENGTH);
+        CHECK(vbus_slave_remove(table, lengths[i], 0) == VBUS_WRONG_TABLE_LENGTH);
+    }
+    CHECK(memcmp(table, before, sizeof before) == 0);
+    /* a free entry is never found, whatever it has besides its address */
+    table[8].address = before[8].address = 0;
+    CHECK(slave_found_is(vbus_slave_find(table, n, 0), VBUS_NO_SUCH_ADDRESS, 0, 0));
+    CHECK(vbus_slave_remove(table, n, 0) == VBUS_NO_SUCH_ADDRESS);
+    CHECK(vbus_slave_change_address(table, n, 0, 0x2400) == VBUS_NO_SUCH_ADDRESS);
+    CHECK(memcmp(table, before, sizeof before) == 0);
+}
+
 /* NULL is never read or written where its count is 0: a read would end the program. */
 static void null_with_zero(void) {
     const vbus_header block = block_header();
@@ -610,6 +799,12 @@ static void null_with_zero(void) {
     CHECK(count_is(vbus_element_count(block, NULL, 0, 0), VBUS_NO_SUCH_PART, 0));
     CHECK(part_is(vbus_element(block, NULL, 0, 0, 0), VBUS_NO_SUCH_PART, 0, 0));
     CHECK(count_is(vbus_section_count(clearance_header(), NULL, 0), VBUS_NOT_BLOCK_PACKET, 0));
+    CHECK(no_slave_id(vbus_read_slave_id(telegram_header(), NULL, 0)));
+    CHECK(written_is(vbus_write_slave_id(0x7731, 0x2010, 0, 0, NULL, 0), VBUS_OUTPUT_TOO_SHORT, 0));
+    CHECK(vbus_slave_enter(NULL, 0, slave(0x2010, 0, 0)) == VBUS_WRONG_TABLE_LENGTH);
+    CHECK(slave_found_is(vbus_slave_find(NULL, 0, 0x2010), VBUS_WRONG_TABLE_LENGTH, 0, 0));
+    CHECK(vbus_slave_change_address(NULL, 0, 0x2010, 0x2011) == VBUS_WRONG_TABLE_LENGTH);
+    CHECK(vbus_slave_remove(NULL, 0, 0x2010) == VBUS_WRONG_TABLE_LENGTH);
 }
 
 int main(void) {
@@ -630,6 +825,11 @@ int main(void) {
     signed_numbers();
     blocks();
     refused_blocks();
+    slave_ids();
+    refused_slave_ids();
+    slaves();
+    slaves_brought_in();
+    refused_slaves();
     null_with_zero();
     printf("%u passed, %u failed\n", passed, failed);
     return failed == 0 ? 0 : 1;

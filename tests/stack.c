@@ -21,12 +21,14 @@
 /* the four section functions last: they have a limit of their own */
 enum {
     CHECKSUM, EXTRACT, INJECT, VALIDATE, NEXT, NEXT_FAULT, RECEIVE, RESET, ENCODE, NORMALIZE, VALUE, TEMPERATURE,
+    READ_SLAVE_ID, WRITE_SLAVE_ID, SLAVE_ENTER, SLAVE_FIND, SLAVE_CHANGE_ADDRESS, SLAVE_REMOVE,
     SECTION_COUNT, SECTION, ELEMENT_COUNT, ELEMENT, EXPORTS
 };
 static const char *const names[EXPORTS] = {
     "vbus_checksum", "vbus_extract", "vbus_inject", "vbus_validate", "vbus_next", "vbus_next_fault", "vbus_receive",
-    "vbus_reset", "vbus_encode", "vbus_normalize", "vbus_value", "vbus_temperature", "vbus_section_count",
-    "vbus_section", "vbus_element_count", "vbus_element"};
+    "vbus_reset", "vbus_encode", "vbus_normalize", "vbus_value", "vbus_temperature", "vbus_read_slave_id",
+    "vbus_write_slave_id", "vbus_slave_enter", "vbus_slave_find", "vbus_slave_change_address", "vbus_slave_remove",
+    "vbus_section_count", "vbus_section", "vbus_element_count", "vbus_element"};
 
 /* the arguments of the call under measurement */
 static struct {
@@ -38,10 +40,16 @@ static struct {
     vbus_receiver receiver;
     uint8_t *out;
     size_t room;
+    vbus_slave slave;
+    uint16_t from, to;
 } call;
 
 /* A receiver's memory, and what it holds before each call: a call may leave it otherwise. */
 static uint8_t memory[VBUS_MAX_STREAM], held[VBUS_MAX_STREAM];
+
+/* A table of slaves, longer than one may be, and what it holds before each call. */
+#define ENTRIES 64
+static vbus_slave table[ENTRIES], entries[ENTRIES];
 
 /* Empty functions, each of the type of an export: what calling costs by itself. */
 #define EMPTY __attribute__((noinline, noclone))
@@ -62,6 +70,12 @@ static EMPTY vbus_count no_section_count(UNUSED vbus_header a, UNUSED const uint
 static EMPTY vbus_part no_section(UNUSED vbus_header a, UNUSED const uint8_t *b, UNUSED size_t c, UNUSED size_t d) { static vbus_part z; __asm__(""); return z; }
 static EMPTY vbus_count no_element_count(UNUSED vbus_header a, UNUSED const uint8_t *b, UNUSED size_t c, UNUSED size_t d) { static vbus_count z; __asm__(""); return z; }
 static EMPTY vbus_part no_element(UNUSED vbus_header a, UNUSED const uint8_t *b, UNUSED size_t c, UNUSED size_t d, UNUSED size_t e) { static vbus_part z; __asm__(""); return z; }
+static EMPTY vbus_slave_id no_read_slave_id(UNUSED vbus_header a, UNUSED const uint8_t *b, UNUSED size_t c) { static vbus_slave_id z; __asm__(""); return z; }
+static EMPTY vbus_written no_write_slave_id(UNUSED uint16_t a, UNUSED uint16_t b, UNUSED uint32_t c, UNUSED uint32_t d, UNUSED uint8_t *e, UNUSED size_t f) { static vbus_written z; __asm__(""); return z; }
+static EMPTY uint32_t no_slave_enter(UNUSED vbus_slave *a, UNUSED size_t b, UNUSED vbus_slave c) { __asm__(""); return 0; }
+static EMPTY vbus_slave_found no_slave_find(UNUSED const vbus_slave *a, UNUSED size_t b, UNUSED uint16_t c) { static vbus_slave_found z; __asm__(""); return z; }
+static EMPTY uint32_t no_slave_change_address(UNUSED vbus_slave *a, UNUSED size_t b, UNUSED uint16_t c, UNUSED uint16_t d) { __asm__(""); return 0; }
+static EMPTY uint32_t no_slave_remove(UNUSED vbus_slave *a, UNUSED size_t b, UNUSED uint16_t c) { __asm__(""); return 0; }
 
 /* The export and the empty function go through one pointer, so that both are called by the same code. */
 static uint8_t (*volatile f_checksum)(const uint8_t *, size_t);
@@ -80,6 +94,12 @@ static vbus_count (*volatile f_section_count)(vbus_header, const uint8_t *, size
 static vbus_part (*volatile f_section)(vbus_header, const uint8_t *, size_t, size_t);
 static vbus_count (*volatile f_element_count)(vbus_header, const uint8_t *, size_t, size_t);
 static vbus_part (*volatile f_element)(vbus_header, const uint8_t *, size_t, size_t, size_t);
+static vbus_slave_id (*volatile f_read_slave_id)(vbus_header, const uint8_t *, size_t);
+static vbus_written (*volatile f_write_slave_id)(uint16_t, uint16_t, uint32_t, uint32_t, uint8_t *, size_t);
+static uint32_t (*volatile f_slave_enter)(vbus_slave *, size_t, vbus_slave);
+static vbus_slave_found (*volatile f_slave_find)(const vbus_slave *, size_t, uint16_t);
+static uint32_t (*volatile f_slave_change_address)(vbus_slave *, size_t, uint16_t, uint16_t);
+static uint32_t (*volatile f_slave_remove)(vbus_slave *, size_t, uint16_t);
 
 static void choose(int empty) {
     f_checksum = empty ? no_checksum : vbus_checksum;
@@ -98,6 +118,12 @@ static void choose(int empty) {
     f_section = empty ? no_section : vbus_section;
     f_element_count = empty ? no_element_count : vbus_element_count;
     f_element = empty ? no_element : vbus_element;
+    f_read_slave_id = empty ? no_read_slave_id : vbus_read_slave_id;
+    f_write_slave_id = empty ? no_write_slave_id : vbus_write_slave_id;
+    f_slave_enter = empty ? no_slave_enter : vbus_slave_enter;
+    f_slave_find = empty ? no_slave_find : vbus_slave_find;
+    f_slave_change_address = empty ? no_slave_change_address : vbus_slave_change_address;
+    f_slave_remove = empty ? no_slave_remove : vbus_slave_remove;
 }
 
 static union {
@@ -113,6 +139,9 @@ static union {
     int16_t temperature;
     vbus_count count;
     vbus_part part;
+    vbus_slave_id slave_id;
+    vbus_slave_found slave_found;
+    uint32_t number;
 } answer;
 
 static uint8_t stack[STACK] __attribute__((aligned(64)));
@@ -140,6 +169,12 @@ static void run(void) {
     case SECTION: answer.part = f_section(call.header, call.input, call.n, call.section); break;
     case ELEMENT_COUNT: answer.count = f_element_count(call.header, call.input, call.n, call.section); break;
     case ELEMENT: answer.part = f_element(call.header, call.input, call.n, call.section, call.element); break;
+    case READ_SLAVE_ID: answer.slave_id = f_read_slave_id(call.header, call.input, call.n); break;
+    case WRITE_SLAVE_ID: answer.written = f_write_slave_id(call.to, call.from, call.slave.product, call.slave.device, call.out, call.room); break;
+    case SLAVE_ENTER: answer.number = f_slave_enter(table, call.n, call.slave); break;
+    case SLAVE_FIND: answer.slave_found = f_slave_find(table, call.n, call.from); break;
+    case SLAVE_CHANGE_ADDRESS: answer.number = f_slave_change_address(table, call.n, call.from, call.to); break;
+    case SLAVE_REMOVE: answer.number = f_slave_remove(table, call.n, call.from); break;
     }
     /* here, and without a call: what follows on this stack, back to main's, would count too */
     size_t low = 0;
@@ -150,6 +185,7 @@ static void run(void) {
 static size_t depth(int empty) {
     memset(stack, pattern, sizeof stack);
     memcpy(memory, held, sizeof memory);
+    memcpy(table, entries, sizeof table);
     choose(empty);
     if (getcontext(&there) != 0) abort();
     there.uc_stack.ss_sp = stack;
@@ -423,13 +459,76 @@ static void chains(void) {
     blocks(508, chain);
 }
 
+/* slave ID responses and records that are none; identifiers and addresses that are too large, and all rooms */
+static void slave_ids(void) {
+    static const uint8_t payload[8] = {0x38, 0x90, 0x0D, 0xB6, 0xC6, 0x23, 0x00, 0x00}, last[7] = {0, 0, 0, 0, 0, 0, 1};
+    static const uint8_t versions[5] = {VBUS_TELEGRAM, VBUS_TELEGRAM_31, VBUS_PACKET, VBUS_DATAGRAM, 0x11};
+    for (int i = 0; i < 5; i++) {
+        for (uint16_t command = 0x22; command <= 0x24; command++) {
+            call.header = header_of(versions[i], command);
+            call.input = payload;
+            for (call.n = 0; call.n <= 8; call.n++) measure(READ_SLAVE_ID);
+            call.input = last;
+            call.n = 7;
+            measure(READ_SLAVE_ID);
+        }
+    }
+    static const uint32_t identifiers[4] = {0, 888888, 0xFFFFFF, 0x1000000};
+    static const uint16_t addresses[3] = {0x2010, 0x0080, 0x8000};
+    call.out = out;
+    for (int i = 0; i < 144; i++) {
+        call.slave.product = identifiers[i % 4];
+        call.slave.device = identifiers[i / 4 % 4];
+        call.to = addresses[i / 16 % 3];
+        call.from = addresses[i / 48];
+        for (call.room = 0; call.room <= 18; call.room++) measure(WRITE_SLAVE_ID);
+    }
+}
+
+/* every call on the table in `entries`, with addresses that it has and others */
+static void table_of(size_t n) {
+    static const uint16_t addresses[7] = {0x2100, 0x210F, 0x211F, 0x2F7F, 0x2000, 0xA010, 0};
+    call.n = n;
+    for (int i = 0; i < 7; i++) {
+        call.from = addresses[i];
+        measure(SLAVE_FIND);
+        measure(SLAVE_REMOVE);
+        for (int j = 0; j < 7; j++) {
+            call.to = addresses[j];
+            measure(SLAVE_CHANGE_ADDRESS);
+        }
+        call.slave.address = addresses[i];
+        call.slave.product = 0xFFFFFF;
+        for (call.slave.device = 0xFFFFFF; call.slave.device <= 0x1000000; call.slave.device++) measure(SLAVE_ENTER);
+    }
+}
+
+/* tables of right and wrong lengths: empty, full, and with one entry free, each in turn */
+static void slaves(void) {
+    static const size_t lengths[6] = {0, 1, 31, VBUS_SLAVES, 33, ENTRIES};
+    for (int i = 0; i < 6; i++) {
+        memset(entries, 0, sizeof entries);
+        table_of(lengths[i]);
+        for (size_t k = 0; k < ENTRIES; k++) {
+            entries[k].address = (uint16_t)(0x2100 + k);
+            entries[k].product = entries[k].device = (uint32_t)(1000 * k);
+        }
+        table_of(lengths[i]);
+        for (size_t k = 0; k < lengths[i]; k++) {
+            entries[k].address = 0;
+            table_of(lengths[i]);
+            entries[k].address = (uint16_t)(0x2100 + k);
+        }
+    }
+}
+
 /* Prints each export's figure; gives the number of those over their limit. */
 static int report(size_t limit, size_t sections_limit) {
     int over = 0;
-    printf("%-20s %6s\n", "export", "bytes");
+    printf("%-26s %6s\n", "export", "bytes");
     for (int i = 0; i < EXPORTS; i++) {
         size_t most = i >= SECTION_COUNT ? sections_limit : limit;
-        printf("%-20s %6zu%s\n", names[i], deepest[i], deepest[i] > most ? "  over the limit" : "");
+        printf("%-26s %6zu%s\n", names[i], deepest[i], deepest[i] > most ? "  over the limit" : "");
         over += deepest[i] > most;
     }
     printf("%lu calls measured; limits %zu and, of the lookups of sections, %zu bytes\n", calls, limit, sections_limit);
@@ -451,5 +550,7 @@ int main(int argc, char **argv) {
     damaged_streams(payload);
     for (int i = 3; i < argc; i++) stored(argv[i]);
     chains();
+    slave_ids();
+    slaves();
     return report(strtoul(argv[1], NULL, 10), strtoul(argv[2], NULL, 10)) == 0 ? 0 : 1;
 }
