@@ -91,3 +91,27 @@ pub fn receive_in_memory(
 ) -> vbus_sys::Received {
     receive(black_box(receiver), chunk, payload)
 }
+
+#[inline(always)]
+pub fn slave_enter(table: &mut [vbus_sys::Slave], slave: vbus_sys::Slave) -> u32 {
+    // SAFETY: pointer and count are those of a slice.
+    unsafe { vbus_sys::vbus_slave_enter(table.as_mut_ptr(), table.len(), slave) }
+}
+
+#[inline(always)]
+pub fn slave_find(table: &mut [vbus_sys::Slave], address: u16) -> vbus_sys::SlaveFound {
+    // SAFETY: pointer and count are those of a slice.
+    unsafe { vbus_sys::vbus_slave_find(table.as_ptr(), table.len(), address) }
+}
+
+#[inline(always)]
+pub fn slave_change_address(table: &mut [vbus_sys::Slave], from: u16, to: u16) -> u32 {
+    // SAFETY: pointer and count are those of a slice.
+    unsafe { vbus_sys::vbus_slave_change_address(table.as_mut_ptr(), table.len(), from, to) }
+}
+
+#[inline(always)]
+pub fn slave_remove(table: &mut [vbus_sys::Slave], address: u16) -> u32 {
+    // SAFETY: pointer and count are those of a slice.
+    unsafe { vbus_sys::vbus_slave_remove(table.as_mut_ptr(), table.len(), address) }
+}

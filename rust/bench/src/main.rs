@@ -6,7 +6,8 @@
 //!
 //! A second table has the library's time for recordings in which all unused septet bits are set
 //! against its time for the same recordings without. A third has its time for the faults of hostile
-//! recordings against its time for as many bytes in recordings of an eighth of the size.
+//! recordings against its time for as many bytes in recordings of an eighth of the size. A fourth has
+//! calls on a table of slaves, again against the reference.
 
 mod library;
 mod recordings;
@@ -68,6 +69,26 @@ fn ref_receive(
     payload: &mut [u8],
 ) -> reference::Received {
     receiver.receive(chunk, payload)
+}
+
+#[inline(never)]
+fn ref_slave_enter(table: &mut [reference::Slave], slave: reference::Slave) -> u32 {
+    reference::slave_enter(table, slave)
+}
+
+#[inline(never)]
+fn ref_slave_find(table: &mut [reference::Slave], address: u16) -> reference::SlaveFound {
+    reference::slave_find(table, address)
+}
+
+#[inline(never)]
+fn ref_slave_change_address(table: &mut [reference::Slave], from: u16, to: u16) -> u32 {
+    reference::slave_change_address(table, from, to)
+}
+
+#[inline(never)]
+fn ref_slave_remove(table: &mut [reference::Slave], address: u16) -> u32 {
+    reference::slave_remove(table, address)
 }
 
 // What is timed. Each answers with a number that depends on every answer it got.
@@ -157,6 +178,25 @@ macro_rules! receive_all {
     }};
 }
 
+/// A call on a table whose last entry is free, and 32 slaves, all but the last of them in it. The call
+/// puts right before what it changed the last time.
+macro_rules! on_table {
+    ($slave:ty, |$table:ident, $slaves:ident| $call:expr) => {{
+        type Slave = $slave;
+        let slaves: [Slave; 32] = std::array::from_fn(|i| Slave {
+            address: 0x2010 + 0x100 * (i as u16 / 7) + 0x10 * (i as u16 % 7),
+            product: 888_888,
+            device: 17 * 131_072 + i as u32,
+        });
+        let mut table = slaves;
+        table[31].address = 0;
+        move || {
+            let ($table, $slaves) = (black_box(&mut table), black_box(&slaves));
+            $call
+        }
+    }};
+}
+
 #[repr(C)]
 struct Timespec {
     seconds: i64,
@@ -210,12 +250,33 @@ fn compare(
 }
 
 /// Times two works in turns and prints a row of a table. `bytes` is what one run handles.
-fn row(
-    name: &str,
-    bytes: usize,
-    mut work: impl FnMut() -> usize,
-    mut other: impl FnMut() -> usize,
-) {
+fn row(name: &str, bytes: usize, work: impl FnMut() -> usize, other: impl FnMut() -> usize) {
+    let Times {
+        ratios,
+        of_work,
+        of_other,
+    } = times(work, other);
+    let per_byte = median(&of_work) / bytes as f64;
+    println!(
+        "| {name} | {:.2} | {:.2} | {:.2} | {:.3} | {:.3} | {:.0} |",
+        ratios[0],
+        median(&ratios),
+        ratios[ROUNDS - 1],
+        per_byte,
+        median(&of_other) / bytes as f64,
+        1e9 / per_byte / BUS,
+    );
+}
+
+/// Each round's ratio and the nanoseconds of both works, all of them sorted.
+struct Times {
+    ratios: Vec<f64>,
+    of_work: Vec<f64>,
+    of_other: Vec<f64>,
+}
+
+/// Times two works in turns.
+fn times(mut work: impl FnMut() -> usize, mut other: impl FnMut() -> usize) -> Times {
     let mut repeats = 1;
     while time(repeats, &mut work) * f64::from(repeats) < LEAST {
         repeats *= 2;
@@ -232,18 +293,12 @@ fn row(
         of_work.push(best.0);
         of_other.push(best.1);
     }
-    let ratios = of_work.iter().zip(&of_other).map(|(a, b)| a / b);
-    let ratios = sorted(ratios.collect());
-    let per_byte = median(&sorted(of_work)) / bytes as f64;
-    println!(
-        "| {name} | {:.2} | {:.2} | {:.2} | {:.3} | {:.3} | {:.0} |",
-        ratios[0],
-        median(&ratios),
-        ratios[ROUNDS - 1],
-        per_byte,
-        median(&sorted(of_other)) / bytes as f64,
-        1e9 / per_byte / BUS,
-    );
+    let ratios = of_work.iter().zip(&of_other).map(|(a, b)| a / b).collect();
+    Times {
+        ratios: sorted(ratios),
+        of_work: sorted(of_work),
+        of_other: sorted(of_other),
+    }
 }
 
 /// A table's head; `other` names what the work is compared with.
@@ -435,6 +490,72 @@ fn short_work(random: &mut Random) {
     }
 }
 
+/// Times a call on a table of slaves on both sides, which must give the same answer, and prints a row.
+fn table_row(name: &str, mut library: impl FnMut() -> usize, mut reference: impl FnMut() -> usize) {
+    assert_eq!(library(), reference(), "{name}: the answers differ");
+    let Times {
+        ratios,
+        of_work,
+        of_other,
+    } = times(library, reference);
+    println!(
+        "| {name} | {:.2} | {:.2} | {:.2} | {:.1} | {:.1} |",
+        ratios[0],
+        median(&ratios),
+        ratios[ROUNDS - 1],
+        median(&of_work),
+        median(&of_other),
+    );
+}
+
+/// The calls that look furthest: at the last of 31 slaves, or behind it.
+fn slaves() {
+    println!("| Slaves | min | median | max | ns a call | reference |");
+    println!("|---|---|---|---|---|---|");
+    table_row(
+        "enter, 31 slaves",
+        on_table!(vbus_sys::Slave, |table, slaves| {
+            table[31].address = 0;
+            lib::slave_enter(table, slaves[31]) as usize
+        }),
+        on_table!(reference::Slave, |table, slaves| {
+            table[31].address = 0;
+            ref_slave_enter(table, slaves[31]) as usize
+        }),
+    );
+    table_row(
+        "find the last of 31 slaves",
+        on_table!(vbus_sys::Slave, |table, slaves| {
+            lib::slave_find(table, slaves[30].address).device as usize
+        }),
+        on_table!(reference::Slave, |table, slaves| {
+            ref_slave_find(table, slaves[30].address).device as usize
+        }),
+    );
+    table_row(
+        "change_address of the last of 31 slaves",
+        on_table!(vbus_sys::Slave, |table, slaves| {
+            table[30].address = slaves[30].address;
+            lib::slave_change_address(table, slaves[30].address, slaves[31].address) as usize
+        }),
+        on_table!(reference::Slave, |table, slaves| {
+            table[30].address = slaves[30].address;
+            ref_slave_change_address(table, slaves[30].address, slaves[31].address) as usize
+        }),
+    );
+    table_row(
+        "remove the last of 31 slaves",
+        on_table!(vbus_sys::Slave, |table, slaves| {
+            table[30] = slaves[30];
+            lib::slave_remove(table, slaves[30].address) as usize
+        }),
+        on_table!(reference::Slave, |table, slaves| {
+            table[30] = slaves[30];
+            ref_slave_remove(table, slaves[30].address) as usize
+        }),
+    );
+}
+
 fn main() {
     head("Work", "reference");
     let mut random = Random(0x9E37_79B9_7F4A_7C15);
@@ -466,4 +587,6 @@ fn main() {
     for (kind, make) in recordings::HOSTILE {
         growth(kind, &make(1 << 19, &mut random));
     }
+    println!();
+    slaves();
 }
