@@ -451,7 +451,7 @@ impl Checker {
         let (class, start) = rng.pick(&STARTS);
         let (length, calls) = match rng.below(8) {
             0 => (rng.pick(&WRONG_LENGTHS), 10),
-            _ => (SLAVES, 60),
+            _ => (SLAVES, 200),
         };
         let addresses = addresses(rng);
         let slaves: Vec<Slave> = (0..length).map(|i| start(rng, &addresses, i)).collect();
