@@ -7,8 +7,8 @@ use mathlib.Core.List.{List, [], _∷_}
 use lib.Dec.{eqb}
 use lib.ListN.{length, getD, drop, drop-of-length-le}
 use Rattle.basics.specs.Choice.{choose}
-use Rattle.slaves.specs.Table.{none, indexOf}
-use Rattle.slaves.specs.declared.Slave.{Slave}
+use Rattle.slave_plans.specs.Table.{none, indexOf}
+use Rattle.slave_plans.specs.declared.Slave.{Slave}
 
 module _ (address : ℕ) where
   pub found-here : (table : List Slave) (index : ℕ) → index < length table → eqb (getD table index none .address) address ≡ true

@@ -19,16 +19,16 @@ use denote.Builtin.{u16, u32, usize}
 use denote.Memory.{pointee}
 use denote.Index.{place, place-is}
 use denote.Struct.Laws as laws
-use Rattle.slaves.specs.Table.{none}
-use Rattle.slaves.specs.declared.Slave.{Slave}
-use Rattle.slaves.specs.declared.Found.{Found}
-use Rattle.slaves.specs.declared.plan.Plan.{Plan}
-use Rattle.slaves.proofs.Slave as slave
-use Rattle.slaves.proofs.Slave.Laws as slave′
-use Rattle.slaves.proofs.Found as found
-use Rattle.slaves.proofs.Found.Laws as found′
-use Rattle.slaves.proofs.plan.Plan as plan
-use Rattle.slaves.proofs.plan.Plan.Laws as plan′
+use Rattle.slave_plans.specs.Table.{none}
+use Rattle.slave_plans.specs.declared.Slave.{Slave}
+use Rattle.slave_plans.specs.declared.Found.{Found}
+use Rattle.slave_plans.specs.declared.Plan.{Plan}
+use Rattle.slave_plans.proofs.Slave as slave
+use Rattle.slave_plans.proofs.Slave.Laws as slave′
+use Rattle.slave_plans.proofs.Found as found
+use Rattle.slave_plans.proofs.Found.Laws as found′
+use Rattle.slave_plans.proofs.Plan as plan
+use Rattle.slave_plans.proofs.Plan.Laws as plan′
 
 -- ── Slave
 

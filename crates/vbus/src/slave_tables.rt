@@ -1,8 +1,8 @@
 // A table of slaves, lent as a slice of entries.
 ghost use mathlib.Core.Path.{_≡_};
-ghost use Rattle.slaves.specs.Answer.{enterRefusal, entered, foundOf, changeRefusal, changed, removeRefusal, removed};
-use slaves::Found;
-use slaves::Slave;
+ghost use Rattle.slave_plans.specs.Answer.{enterRefusal, entered, foundOf, changeRefusal, changed, removeRefusal, removed};
+use slave_plans::Found;
+use slave_plans::Slave;
 
 // Enters a slave as the lowest free entry, and answers 0 or the refusal's number.
 #[no_mangle]

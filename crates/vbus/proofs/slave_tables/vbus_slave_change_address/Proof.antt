@@ -1,6 +1,5 @@
--- `vbus::slave_tables::vbus_slave_change_address` meets its contract: a walk of its MIR. Written by scripts/walks/write from its description in
--- scripts/walks/descriptions.py.
--- Assumes nothing.
+-- `vbus::slave_tables::vbus_slave_change_address` meets its contract: a walk of its MIR.
+-- Written by scripts/walks/write from its description in scripts/walks/descriptions.py. Assumes nothing.
 use mathlib.Core.Path.{_≡_, refl, ap, subst}
 use Prim.Native.Nat.{ℕ}
 use mathlib.Core.List.{[], _∷_, List}
@@ -26,7 +25,7 @@ use denote.Laws.{Is, shows}
 use denote.Plain.{uint-makes, uint-lawful, uint-vals, uint-tells}
 use denote.Builtin.{u16, u32}
 use denote.Ref.{RefT}
-use denote.Slice.{sliceVal, MutSlice, ShrSlice, Room, slice-vals, mut-slice-tells, finally}
+use denote.Slice.{sliceVal, MutSlice, Room, slice-vals, mut-slice-tells, finally}
 use denote.Signature.{plain}
 use denote.Steps.{only, owned, peeks, heard, nothing}
 use denote.Triple.Statement.{Contract, Triple}
@@ -37,10 +36,9 @@ use denote.Triple.Table.{entered as routine-meets, cited}
 use denote.Triple.Walked.{says, Stays, gave-slice, stay-none, walkOf, goes-gave-slice, goes-none, Walks, ends-at, walked, walk-meets}
 use denote.Triple.Clauses.{ensured, lasts}
 use denote.Exit.{yes}
-use Rattle.slaves.specs.Answer.{changeRefusal, changed}
-use Rattle.slaves.specs.declared.Slave.{Slave}
+use Rattle.slave_plans.specs.Answer.{changeRefusal, changed}
+use Rattle.slave_plans.specs.declared.Slave.{Slave}
 use Rattle.slaves.proofs.Structs.{slave-row}
-use Rattle.slaves.proofs.Planned.{}
 use Rattle.slaves.proofs.change_address as slaves-change-address
 use Rattle.slaves.proofs.change_address.Symbol as slaves-change-address-def
 use Rattle.slaves.proofs.change_address.Symbol.{name as #slaves-change-address}
@@ -57,7 +55,9 @@ module _ {M : Type 1} (𝓤 : URA M) (H : Heap 𝓤) (A : Atoms 𝓤) (mem : Mem
   abbrev The-slaves-change-address : Contract 𝓤
   The-slaves-change-address = tripleOf 𝓤 H A slaves-change-address.signature (slaves-change-address.spec 𝓤 H A mem run)
 
-module _ {M : Type 1} (𝓤 : URA M) (H : Heap 𝓤) (A : Atoms 𝓤) (W : Given 𝓤 H A) (mem : Memory → SProp 𝓤) (run : Routine → Fun 𝓤) (κ : Lft) (q : Share) (b o : ℕ) (γ : GName) (table : List Slave) (from′ : ℕ) (to : ℕ) (room : Room slave-row (length table)) (is-from : Is u16 from′ (uint-vals w16 from′)) (is-to : Is u16 to (uint-vals w16 to)) where
+module _ {M : Type 1} (𝓤 : URA M) (H : Heap 𝓤) (A : Atoms 𝓤) (W : Given 𝓤 H A) (mem : Memory → SProp 𝓤) (run : Routine → Fun 𝓤)
+    (κ : Lft) (q : Share) (b o : ℕ) (γ : GName) (table : List Slave) (from′ : ℕ) (to : ℕ)
+    (room : Room slave-row (length table)) (is-from : Is u16 from′ (uint-vals w16 from′)) (is-to : Is u16 to (uint-vals w16 to)) where
   -- the table under a ghost name: its own, or that of a loan
   abbrev x : GName → RefT (List Slave)
   x δ = record { ptr = (b, o); name = δ; now = table }
@@ -74,19 +74,19 @@ module _ {M : Type 1} (𝓤 : URA M) (H : Heap 𝓤) (A : Atoms 𝓤) (W : Given
   abbrev Own : Item 𝓤
   Own = ‵ (MutSlice (named 0) κ slave-row .own (x γ) (s ∷ []))
 
-  abbrev Seen : Lft → GName → Item 𝓤
-  Seen κ′ δ = ‵ (ShrSlice (named 0) κ′ slave-row .own (x δ) (s ∷ []))
-
   abbrev Post : Val → SProp 𝓤
   Post = walkOf 𝓤 H A f.ended stayed (f.clauses 𝓤 H A mem run) .post (((κ, tt), (q, tt), tt, (x γ, (from′, (to, tt))), given), tt)
 
+  -- what is left to show where the function returns
   exits : (r : ℕ) (after : List Slave) → Is u32 r (uint-vals w32 r) → length after ≡ length table
-      → (r ≡ changeRefusal from′ to table) × (after ≡ changed from′ to table) → ent 𝓤 (⋆ 𝓤 H A (Token ∷ ‵ (finally slave-row γ after) ∷ [])) (Post (vint w32 r))
+      → (r ≡ changeRefusal from′ to table) × (after ≡ changed from′ to table)
+      → ent 𝓤 (⋆ 𝓤 H A (Token ∷ ‵ (finally slave-row γ after) ∷ [])) (Post (vint w32 r))
   exits r after is-r len met =
       qed W (Token ∷ ‵ (finally slave-row γ after) ∷ []) ∵
-      suffices ! _ (ends-at 𝓤 H A f.ended stayed (f.clauses 𝓤 H A mem run) W (((κ, tt), (q, tt), tt, (x γ, (from′, (to, tt))), given), tt) (vint w32 r) r (after, (tt, (tt, tt))) (len, (tt, (tt, tt)))) $
-      says ! met $ frame ! $ nothing ! $
-      owned ! u16 (Is u16) (uint-makes 𝓤 H A W w16) to _ is-to $ fjoin ! $ owned ! u16 (Is u16) (uint-makes 𝓤 H A W w16) from′ _ is-from $ fjoin ! $
+      suffices ! _ (ends-at 𝓤 H A f.ended stayed (f.clauses 𝓤 H A mem run) W (((κ, tt), (q, tt), tt, (x γ, (from′, (to, tt))), given), tt)
+      (vint w32 r) r (after, (tt, (tt, tt))) (len, (tt, (tt, tt)))) $
+      says ! met $ frame ! $ nothing ! $ owned ! u16 (Is u16) (uint-makes 𝓤 H A W w16) to _ is-to $ fjoin ! $
+      owned ! u16 (Is u16) (uint-makes 𝓤 H A W w16) from′ _ is-from $ fjoin ! $
       move ! (1 ∷ 0 ∷ []) $ fjoin ! $ frame ! $ owned ! u32 (Is u32) (uint-makes 𝓤 H A W w32) r _ is-r $ done !
 
   abbrev to-slaves-change-address : ℕ → ℕ → The-slaves-change-address 𝓤 H A mem run .Ghost
@@ -96,34 +96,45 @@ module _ {M : Type 1} (𝓤 : URA M) (H : Heap 𝓤) (A : Atoms 𝓤) (W : Given
       → ent 𝓤 (⋆ 𝓤 H A (Own ∷ ‵ (flft κ q) ∷ [])) (The-slaves-change-address 𝓤 H A mem run .pre (to-slaves-change-address y0 y1))
   goes-slaves-change-address y0 y1 is-y0 is-y1 =
       qed W (Own ∷ ‵ (flft κ q) ∷ []) ∵
-      nothing ! $ owned ! u16 (Is u16) (uint-makes 𝓤 H A W w16) y1 _ is-y1 $ fjoin ! $ owned ! u16 (Is u16) (uint-makes 𝓤 H A W w16) y0 _ is-y0 $ fjoin ! $
-      move ! (1 ∷ 0 ∷ []) $ fjoin ! $ nothing ! $ move ! (2 ∷ 0 ∷ []) $ join ! $ join ! $ frame ! $ done !
+      nothing ! $ owned ! u16 (Is u16) (uint-makes 𝓤 H A W w16) y1 _ is-y1 $ fjoin ! $ owned ! u16 (Is u16) (uint-makes 𝓤 H A W w16) y0 _ is-y0 $
+      fjoin ! $ move ! (1 ∷ 0 ∷ []) $ fjoin ! $ nothing ! $ move ! (2 ∷ 0 ∷ []) $ join ! $ join ! $ frame ! $ done !
 
-  module _ (C : Calls 𝓤 H) (Λ : Loops 𝓤 H) (fm : FmC 𝓤 H (W .laws) C) (known-slaves-change-address : Triple 𝓤 (C #slaves-change-address) (The-slaves-change-address 𝓤 H A mem run)) where
-    -- of a result r: u-r is its machine value, e-r what the callee ensures, is-r and ok-r that it is a value of its type
-    walk : ent 𝓤 (onEntry 𝓤 H A f.signature (κ, tt) (q, tt) (x γ, (from′, (to, tt))) given) (WpFn 𝓤 H C Λ code.function (s ∷ vint w16 from′ ∷ vint w16 to ∷ []) Post)
+  module _ (C : Calls 𝓤 H) (Λ : Loops 𝓤 H) (fm : FmC 𝓤 H (W .laws) C)
+      (known-slaves-change-address : Triple 𝓤 (C #slaves-change-address) (The-slaves-change-address 𝓤 H A mem run)) where
+    -- of a result r: u-r is its machine value, e-r what the callee ensures of it, is-r and ok-r that it is a value of its type
+    walk : ent 𝓤 (onEntry 𝓤 H A f.signature (κ, tt) (q, tt) (x γ, (from′, (to, tt))) given)
+        (WpFn 𝓤 H C Λ code.function (s ∷ vint w16 from′ ∷ vint w16 to ∷ []) Post)
     walk =
         qed W (Token ∷ ‵ (owns (MutSlice (named 0) κ slave-row ∷ u16 ∷ u16 ∷ []) (x γ, (from′, (to, tt))) given) ∷ []) ∵
         enter ! C Λ code.function (s ∷ vint w16 from′ ∷ vint w16 to ∷ []) _ $
         alloc1 ! (λ l₀. alloc1 ! (λ l₁. alloc1 ! (λ l₂. alloc1 ! (λ l₃. alloc1 ! (λ l₄. alloc1 ! (λ l₅. alloc0 ! $ params1 ! $
-        pass1 ! (init ! 8 refl (tt, (tt, (record { fits = room .0 }, tt)))) $ pass1 ! (init ! 6 refl (uint-lawful 𝓤 H A W w16 .typed from′ _ is-from .0)) $
+        pass1 ! (init ! 8 refl (tt, (tt, (record { fits = room .0 }, tt)))) $
+        pass1 ! (init ! 6 refl (uint-lawful 𝓤 H A W w16 .typed from′ _ is-from .0)) $
         pass1 ! (init ! 4 refl (uint-lawful 𝓤 H A W w16 .typed to _ is-to .0)) $ pass0 ! $
         move ! (13 ∷ []) $ fsplit ! $ move ! (1 ∷ []) $ drop ! $ move ! (13 ∷ []) $
         split ! $ move ! (2 ∷ 0 ∷ []) $
         assigns ! (addr ! (from ! (fld ! refl (hop ! (look-in ! 11 (sub ! 0 refl (whole !))) (stop !))))) (from ! (stop !)) (init ! 5 refl (tt, tt)) $
-        assigns ! (agg ! (and-then ! (load ! (from ! (stop !)) (look ! 5 refl)) (and-then ! (load ! (from ! (fld ! refl (stop !))) (look-in ! 11 (sub ! 1 refl (whole !)))) (no-more !))))
+        assigns ! (agg ! (and-then ! (load ! (from ! (stop !)) (look ! 5 refl))
+        (and-then ! (load ! (from ! (fld ! refl (stop !))) (look-in ! 11 (sub ! 1 refl (whole !)))) (no-more !))))
         (from ! (stop !)) (init ! 3 refl (tt, (tt, (record { fits = room .0 }, tt)))) $
         -- `change_address`: the borrow is given up for good
-        use2 W (raw (The-slaves-change-address 𝓤 H A mem run .pre (to-slaves-change-address from′ to))) (goes-slaves-change-address from′ to is-from is-to) $
+        use2 W (raw (The-slaves-change-address 𝓤 H A mem run .pre (to-slaves-change-address from′ to)))
+        (goes-slaves-change-address from′ to is-from is-to) $
         calls-at ! fm (The-slaves-change-address 𝓤 H A mem run) known-slaves-change-address (to-slaves-change-address from′ to)
-        (and-then ! (load ! (from ! (stop !)) (look ! 2 refl)) (and-then ! (load ! (from ! (stop !)) (look ! 8 refl)) (and-then ! (load ! (from ! (stop !)) (look ! 6 refl)) (no-more !)))) (λ u-result.
+        (and-then ! (load ! (from ! (stop !)) (look ! 2 refl))
+        (and-then ! (load ! (from ! (stop !)) (look ! 8 refl)) (and-then ! (load ! (from ! (stop !)) (look ! 6 refl)) (no-more !)))) (λ u-result.
         use1 W (later (some (λ (result : ℕ). (Token ⊛ ‵ (u32 .own result (u-result ∷ [])))
-        ⊛ raw (ensured 𝓤 H A slaves-change-address.ended (slaves-change-address.clauses 𝓤 H A mem run) (κ, tt) (x γ, (from′, (to, tt))) tt result)))) (id⊢ 𝓤 _) $ await ! tt $ pick ! (λ result.
-        split ! $ move ! (1 ∷ []) $ use1 W (some (λ (ends : List Slave × (Unit {0} × (Unit {0} × Unit {0}))). ‵ (lasts slaves-change-address.ended (κ, tt) (x γ, (from′, (to, tt))) ends)
-        ⊛ raw (fact 𝓤 ((result ≡ changeRefusal from′ to table) × ((ends .0) ≡ changed from′ to table))))) (id⊢ 𝓤 _) $ pick ! (λ ends.
-        split ! $ move ! (1 ∷ []) $ heard ! ((result ≡ changeRefusal from′ to table) × ((ends .0) ≡ changed from′ to table)) (λ e-result. fsplit ! $ fsplit ! $ move ! (1 ∷ []) $ feqL ! (λ len.
-        move ! (2 ∷ []) $ split ! $ move ! (1 ∷ []) $
-        peeks ! u32 (Is u32) (shows 𝓤 H A u32) result (u-result ∷ []) (λ is-result. let ok-result = subst (Is u32 result) (uint-tells w32 result _ is-result) is-result in
+        ⊛ raw (ensured 𝓤 H A slaves-change-address.ended (slaves-change-address.clauses 𝓤 H A mem run) (κ, tt) (x γ, (from′, (to, tt))) tt result))))
+        (id⊢ 𝓤 _) $
+        await ! tt $ pick ! (λ result. split ! $ move ! (1 ∷ []) $
+        use1 W (some (λ (ends : List Slave × (Unit {0} × (Unit {0} × Unit {0}))). ‵
+        (lasts slaves-change-address.ended (κ, tt) (x γ, (from′, (to, tt))) ends)
+        ⊛ raw (fact 𝓤 ((result ≡ changeRefusal from′ to table) × ((ends .0) ≡ changed from′ to table))))) (id⊢ 𝓤 _) $
+        pick ! (λ ends. split ! $ move ! (1 ∷ []) $
+        heard ! ((result ≡ changeRefusal from′ to table) × ((ends .0) ≡ changed from′ to table)) (λ e-result.
+        fsplit ! $ fsplit ! $ move ! (1 ∷ []) $ feqL ! (λ len. move ! (2 ∷ []) $ split ! $ move ! (1 ∷ []) $
+        peeks ! u32 (Is u32) (shows 𝓤 H A u32) result (u-result ∷ []) (λ is-result.
+        let ok-result = subst (Is u32 result) (uint-tells w32 result _ is-result) is-result in
         land ! (from ! (stop !)) (init ! 15 refl (uint-lawful 𝓤 H A W w32 .typed result _ is-result .0)) $ drop ! $
         rewrite ! 14 (λ (z : Val). ‵ (fat fullShare (tyInt w32) l₀ 0 z)) (ap only (uint-tells w32 result _ is-result)) refl $
         returns ! (look ! 14 refl) $ forget ! 4 refl $ forget ! 6 refl $ forget ! 8 refl $ forget ! 10 refl $ forget ! 12 refl $ forget ! 14 refl $
@@ -132,14 +143,19 @@ module _ {M : Type 1} (𝓤 : URA M) (H : Heap 𝓤) (A : Atoms 𝓤) (W : Given
         keep ! (0 ∷ 1 ∷ []) $ by ! (exits result (ends .0) ok-result len (e-result))))))))))))))
 
 module _ {M : Type 1} (𝓤 : URA M) (H : Heap 𝓤) (A : Atoms 𝓤) (W : Given 𝓤 H A) (mem : Memory → SProp 𝓤) (run : Routine → Fun 𝓤) where
-  walks : (C : Calls 𝓤 H) (Λ : Loops 𝓤 H) → FmC 𝓤 H (W .laws) C → Triple 𝓤 (C #slaves-change-address) (The-slaves-change-address 𝓤 H A mem run)
+  walks : (C : Calls 𝓤 H) (Λ : Loops 𝓤 H) → FmC 𝓤 H (W .laws) C
+      → Triple 𝓤 (C #slaves-change-address) (The-slaves-change-address 𝓤 H A mem run)
       → Walks 𝓤 H A f.ended stayed (WpFn 𝓤 H C Λ code.function) (f.clauses 𝓤 H A mem run)
   walks C Λ fm known-slaves-change-address =
-      walked 𝓤 H A f.ended stayed (f.clauses 𝓤 H A mem run) (WpFn 𝓤 H C Λ code.function) (λ κs. (slice-vals, (uint-vals w16, (uint-vals w16, tt)))) (λ κs. (mut-slice-tells (named 0) (κs .0) slave-row, (uint-tells w16, (uint-tells w16, tt))))
+      walked 𝓤 H A f.ended stayed (f.clauses 𝓤 H A mem run) (WpFn 𝓤 H C Λ code.function)
+      (λ κs. (slice-vals, (uint-vals w16, (uint-vals w16, tt))))
+      (λ κs. (mut-slice-tells (named 0) (κs .0) slave-row, (uint-tells w16, (uint-tells w16, tt))))
       (λ κs qs bounds a g are. via 𝓤 _ (fst∗ 𝓤 _ (emp 𝓤))
-      (walk 𝓤 H A W mem run (κs .0) (qs .0) (a .0 .ptr .0) (a .0 .ptr .1) (a .0 .name) (a .0 .now) (a .1 .0) (a .1 .1 .0) (are .0 .0 .1) (are .1 .0) (are .1 .1 .0) C Λ fm known-slaves-change-address))
+      (walk 𝓤 H A W mem run (κs .0) (qs .0) (a .0 .ptr .0) (a .0 .ptr .1) (a .0 .name) (a .0 .now) (a .1 .0) (a .1 .1 .0)
+      (are .0 .0 .1) (are .1 .0) (are .1 .1 .0) C Λ fm known-slaves-change-address))
 
-meets : {M : Type 1} (𝓤 : URA M) (H : Heap 𝓤) (A : Atoms 𝓤) → Given 𝓤 H A → (mem : Memory → SProp 𝓤) (run : Routine → Fun 𝓤) (𝓣 : Tables 𝓤 H) → Triple 𝓤 (𝓣 .C #slaves-change-address) (The-slaves-change-address 𝓤 H A mem run)
+meets : {M : Type 1} (𝓤 : URA M) (H : Heap 𝓤) (A : Atoms 𝓤) → Given 𝓤 H A → (mem : Memory → SProp 𝓤) (run : Routine → Fun 𝓤) (𝓣 : Tables 𝓤 H)
+    → Triple 𝓤 (𝓣 .C #slaves-change-address) (The-slaves-change-address 𝓤 H A mem run)
     → Meets 𝓤 H A f.signature (WpFn 𝓤 H (𝓣 .C) (𝓣 .Λ) code.function) (f.spec 𝓤 H A mem run)
 meets 𝓤 H A W mem run 𝓣 known-slaves-change-address =
     walk-meets 𝓤 H A f.ended stayed W
@@ -153,4 +169,5 @@ vbus-slave-change-address-spec 𝓤 H 𝓜 𝓖 𝓡 =
     routine-meets 𝓤 H (tripleOf 𝓤 H (𝓖 .A) f.signature (f.spec 𝓤 H (𝓖 .A) (𝓜 .mem) (𝓡 .run)))
     (tables 𝓤 H 𝓜 𝓡 code.env .C) (tables 𝓤 H 𝓜 𝓡 code.env .Λ) #here code.function (code.unfolded 𝓤 H 𝓜 𝓡)
     (meets 𝓤 H (𝓖 .A) (givenOf 𝓤 H 𝓜 𝓖) (𝓜 .mem) (𝓡 .run) (tablesOf 𝓤 H 𝓜 (tables 𝓤 H 𝓜 𝓡 code.env))
-    (cited 𝓤 H (The-slaves-change-address 𝓤 H (𝓖 .A) (𝓜 .mem) (𝓡 .run)) 𝓜 𝓡 code.env #slaves-change-address slaves-change-address-def.routine code.calls-slaves·change-address (slaves-change-address-thm.met 𝓤 H 𝓜 𝓖 𝓡)))
+    (cited 𝓤 H (The-slaves-change-address 𝓤 H (𝓖 .A) (𝓜 .mem) (𝓡 .run)) 𝓜 𝓡 code.env #slaves-change-address slaves-change-address-def.routine
+    code.calls-slaves·change-address (slaves-change-address-thm.met 𝓤 H 𝓜 𝓖 𝓡)))

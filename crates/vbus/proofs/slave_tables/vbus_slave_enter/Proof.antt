@@ -1,6 +1,5 @@
--- `vbus::slave_tables::vbus_slave_enter` meets its contract: a walk of its MIR. Written by scripts/walks/write from its description in
--- scripts/walks/descriptions.py.
--- Assumes nothing.
+-- `vbus::slave_tables::vbus_slave_enter` meets its contract: a walk of its MIR.
+-- Written by scripts/walks/write from its description in scripts/walks/descriptions.py. Assumes nothing.
 use mathlib.Core.Path.{_≡_, refl, ap, subst}
 use Prim.Native.Nat.{ℕ}
 use mathlib.Core.List.{[], _∷_, List}
@@ -26,7 +25,7 @@ use denote.Laws.{Is, shows}
 use denote.Plain.{uint-makes, uint-lawful, uint-vals, uint-tells}
 use denote.Builtin.{u32}
 use denote.Ref.{RefT}
-use denote.Slice.{sliceVal, MutSlice, ShrSlice, Room, slice-vals, mut-slice-tells, finally}
+use denote.Slice.{sliceVal, MutSlice, Room, slice-vals, mut-slice-tells, finally}
 use denote.Signature.{plain}
 use denote.Steps.{only, owned, peeks, heard, nothing}
 use denote.Triple.Statement.{Contract, Triple}
@@ -37,10 +36,9 @@ use denote.Triple.Table.{entered as routine-meets, cited}
 use denote.Triple.Walked.{says, Stays, gave-slice, stay-none, walkOf, goes-gave-slice, goes-none, Walks, ends-at, walked, walk-meets}
 use denote.Triple.Clauses.{ensured, lasts}
 use denote.Exit.{yes}
-use Rattle.slaves.specs.Answer.{enterRefusal, entered}
-use Rattle.slaves.specs.declared.Slave.{Slave}
+use Rattle.slave_plans.specs.Answer.{enterRefusal, entered}
+use Rattle.slave_plans.specs.declared.Slave.{Slave}
 use Rattle.slaves.proofs.Structs.{slave-row, slave-val, slave-vals, slave-tells, slave-makes, slave-lawful}
-use Rattle.slaves.proofs.Planned.{}
 use Rattle.slaves.proofs.enter as slaves-enter
 use Rattle.slaves.proofs.enter.Symbol as slaves-enter-def
 use Rattle.slaves.proofs.enter.Symbol.{name as #slaves-enter}
@@ -57,7 +55,9 @@ module _ {M : Type 1} (𝓤 : URA M) (H : Heap 𝓤) (A : Atoms 𝓤) (mem : Mem
   abbrev The-slaves-enter : Contract 𝓤
   The-slaves-enter = tripleOf 𝓤 H A slaves-enter.signature (slaves-enter.spec 𝓤 H A mem run)
 
-module _ {M : Type 1} (𝓤 : URA M) (H : Heap 𝓤) (A : Atoms 𝓤) (W : Given 𝓤 H A) (mem : Memory → SProp 𝓤) (run : Routine → Fun 𝓤) (κ : Lft) (q : Share) (b o : ℕ) (γ : GName) (table : List Slave) (slave : Slave) (room : Room slave-row (length table)) (is-slave : Is slave-row slave (slave-vals slave)) where
+module _ {M : Type 1} (𝓤 : URA M) (H : Heap 𝓤) (A : Atoms 𝓤) (W : Given 𝓤 H A) (mem : Memory → SProp 𝓤) (run : Routine → Fun 𝓤)
+    (κ : Lft) (q : Share) (b o : ℕ) (γ : GName) (table : List Slave) (slave : Slave)
+    (room : Room slave-row (length table)) (is-slave : Is slave-row slave (slave-vals slave)) where
   -- the table under a ghost name: its own, or that of a loan
   abbrev x : GName → RefT (List Slave)
   x δ = record { ptr = (b, o); name = δ; now = table }
@@ -74,20 +74,19 @@ module _ {M : Type 1} (𝓤 : URA M) (H : Heap 𝓤) (A : Atoms 𝓤) (W : Given
   abbrev Own : Item 𝓤
   Own = ‵ (MutSlice (named 0) κ slave-row .own (x γ) (s ∷ []))
 
-  abbrev Seen : Lft → GName → Item 𝓤
-  Seen κ′ δ = ‵ (ShrSlice (named 0) κ′ slave-row .own (x δ) (s ∷ []))
-
   abbrev Post : Val → SProp 𝓤
   Post = walkOf 𝓤 H A f.ended stayed (f.clauses 𝓤 H A mem run) .post (((κ, tt), (q, tt), tt, (x γ, (slave, tt)), given), tt)
 
+  -- what is left to show where the function returns
   exits : (r : ℕ) (after : List Slave) → Is u32 r (uint-vals w32 r) → length after ≡ length table
-      → (r ≡ enterRefusal slave table) × (after ≡ entered slave table) → ent 𝓤 (⋆ 𝓤 H A (Token ∷ ‵ (finally slave-row γ after) ∷ [])) (Post (vint w32 r))
+      → (r ≡ enterRefusal slave table) × (after ≡ entered slave table)
+      → ent 𝓤 (⋆ 𝓤 H A (Token ∷ ‵ (finally slave-row γ after) ∷ [])) (Post (vint w32 r))
   exits r after is-r len met =
       qed W (Token ∷ ‵ (finally slave-row γ after) ∷ []) ∵
-      suffices ! _ (ends-at 𝓤 H A f.ended stayed (f.clauses 𝓤 H A mem run) W (((κ, tt), (q, tt), tt, (x γ, (slave, tt)), given), tt) (vint w32 r) r (after, (tt, tt)) (len, (tt, tt))) $
-      says ! met $ frame ! $ nothing ! $
-      owned ! slave-row (Is slave-row) (slave-makes 𝓤 H A) slave _ is-slave $ fjoin ! $ move ! (1 ∷ 0 ∷ []) $ fjoin ! $ frame ! $
-      owned ! u32 (Is u32) (uint-makes 𝓤 H A W w32) r _ is-r $ done !
+      suffices ! _ (ends-at 𝓤 H A f.ended stayed (f.clauses 𝓤 H A mem run) W (((κ, tt), (q, tt), tt, (x γ, (slave, tt)), given), tt) (vint w32 r) r
+      (after, (tt, tt)) (len, (tt, tt))) $
+      says ! met $ frame ! $ nothing ! $ owned ! slave-row (Is slave-row) (slave-makes 𝓤 H A) slave _ is-slave $ fjoin ! $
+      move ! (1 ∷ 0 ∷ []) $ fjoin ! $ frame ! $ owned ! u32 (Is u32) (uint-makes 𝓤 H A W w32) r _ is-r $ done !
 
   abbrev to-slaves-enter : Slave → The-slaves-enter 𝓤 H A mem run .Ghost
   to-slaves-enter y0 = (((κ, tt), (q, tt), tt, (x γ, (y0, tt)), (s ∷ [], (slave-vals y0, tt))), tt)
@@ -96,34 +95,39 @@ module _ {M : Type 1} (𝓤 : URA M) (H : Heap 𝓤) (A : Atoms 𝓤) (W : Given
       → ent 𝓤 (⋆ 𝓤 H A (Own ∷ ‵ (flft κ q) ∷ [])) (The-slaves-enter 𝓤 H A mem run .pre (to-slaves-enter y0))
   goes-slaves-enter y0 is-y0 =
       qed W (Own ∷ ‵ (flft κ q) ∷ []) ∵
-      nothing ! $ owned ! slave-row (Is slave-row) (slave-makes 𝓤 H A) y0 _ is-y0 $ fjoin ! $
-      move ! (1 ∷ 0 ∷ []) $ fjoin ! $ nothing ! $ move ! (2 ∷ 0 ∷ []) $ join ! $ join ! $ frame ! $ done !
+      nothing ! $ owned ! slave-row (Is slave-row) (slave-makes 𝓤 H A) y0 _ is-y0 $ fjoin ! $ move ! (1 ∷ 0 ∷ []) $ fjoin ! $ nothing ! $
+      move ! (2 ∷ 0 ∷ []) $ join ! $ join ! $ frame ! $ done !
 
-  module _ (C : Calls 𝓤 H) (Λ : Loops 𝓤 H) (fm : FmC 𝓤 H (W .laws) C) (known-slaves-enter : Triple 𝓤 (C #slaves-enter) (The-slaves-enter 𝓤 H A mem run)) where
-    -- of a result r: u-r is its machine value, e-r what the callee ensures, is-r and ok-r that it is a value of its type
-    walk : ent 𝓤 (onEntry 𝓤 H A f.signature (κ, tt) (q, tt) (x γ, (slave, tt)) given) (WpFn 𝓤 H C Λ code.function (s ∷ slave-val slave ∷ []) Post)
+  module _ (C : Calls 𝓤 H) (Λ : Loops 𝓤 H) (fm : FmC 𝓤 H (W .laws) C)
+      (known-slaves-enter : Triple 𝓤 (C #slaves-enter) (The-slaves-enter 𝓤 H A mem run)) where
+    -- of a result r: u-r is its machine value, e-r what the callee ensures of it, is-r and ok-r that it is a value of its type
+    walk : ent 𝓤 (onEntry 𝓤 H A f.signature (κ, tt) (q, tt) (x γ, (slave, tt)) given)
+        (WpFn 𝓤 H C Λ code.function (s ∷ slave-val slave ∷ []) Post)
     walk =
         qed W (Token ∷ ‵ (owns (MutSlice (named 0) κ slave-row ∷ slave-row ∷ []) (x γ, (slave, tt)) given) ∷ []) ∵
         enter ! C Λ code.function (s ∷ slave-val slave ∷ []) _ $
         alloc1 ! (λ l₀. alloc1 ! (λ l₁. alloc1 ! (λ l₂. alloc1 ! (λ l₃. alloc1 ! (λ l₄. alloc0 ! $ params1 ! $
-        pass1 ! (init ! 6 refl (tt, (tt, (record { fits = room .0 }, tt)))) $ pass1 ! (init ! 4 refl (slave-lawful 𝓤 H A W .typed slave _ is-slave .0)) $
-        pass0 ! $
+        pass1 ! (init ! 6 refl (tt, (tt, (record { fits = room .0 }, tt)))) $
+        pass1 ! (init ! 4 refl (slave-lawful 𝓤 H A W .typed slave _ is-slave .0)) $ pass0 ! $
         move ! (11 ∷ []) $ fsplit ! $ move ! (1 ∷ []) $ drop ! $ move ! (11 ∷ []) $
         split ! $ move ! (2 ∷ 0 ∷ []) $
         assigns ! (addr ! (from ! (fld ! refl (hop ! (look-in ! 9 (sub ! 0 refl (whole !))) (stop !))))) (from ! (stop !)) (init ! 5 refl (tt, tt)) $
-        assigns ! (agg ! (and-then ! (load ! (from ! (stop !)) (look ! 5 refl)) (and-then ! (load ! (from ! (fld ! refl (stop !))) (look-in ! 9 (sub ! 1 refl (whole !)))) (no-more !))))
+        assigns ! (agg ! (and-then ! (load ! (from ! (stop !)) (look ! 5 refl))
+        (and-then ! (load ! (from ! (fld ! refl (stop !))) (look-in ! 9 (sub ! 1 refl (whole !)))) (no-more !))))
         (from ! (stop !)) (init ! 3 refl (tt, (tt, (record { fits = room .0 }, tt)))) $
         -- `enter`: the borrow is given up for good
         use2 W (raw (The-slaves-enter 𝓤 H A mem run .pre (to-slaves-enter slave))) (goes-slaves-enter slave is-slave) $
         calls-at ! fm (The-slaves-enter 𝓤 H A mem run) known-slaves-enter (to-slaves-enter slave)
         (and-then ! (load ! (from ! (stop !)) (look ! 2 refl)) (and-then ! (load ! (from ! (stop !)) (look ! 6 refl)) (no-more !))) (λ u-result.
         use1 W (later (some (λ (result : ℕ). (Token ⊛ ‵ (u32 .own result (u-result ∷ [])))
-        ⊛ raw (ensured 𝓤 H A slaves-enter.ended (slaves-enter.clauses 𝓤 H A mem run) (κ, tt) (x γ, (slave, tt)) tt result)))) (id⊢ 𝓤 _) $ await ! tt $ pick ! (λ result.
-        split ! $ move ! (1 ∷ []) $ use1 W (some (λ (ends : List Slave × (Unit {0} × Unit {0})). ‵ (lasts slaves-enter.ended (κ, tt) (x γ, (slave, tt)) ends)
-        ⊛ raw (fact 𝓤 ((result ≡ enterRefusal slave table) × ((ends .0) ≡ entered slave table))))) (id⊢ 𝓤 _) $ pick ! (λ ends.
-        split ! $ move ! (1 ∷ []) $ heard ! ((result ≡ enterRefusal slave table) × ((ends .0) ≡ entered slave table)) (λ e-result. fsplit ! $ fsplit ! $ move ! (1 ∷ []) $ feqL ! (λ len.
-        move ! (2 ∷ []) $ split ! $ move ! (1 ∷ []) $
-        peeks ! u32 (Is u32) (shows 𝓤 H A u32) result (u-result ∷ []) (λ is-result. let ok-result = subst (Is u32 result) (uint-tells w32 result _ is-result) is-result in
+        ⊛ raw (ensured 𝓤 H A slaves-enter.ended (slaves-enter.clauses 𝓤 H A mem run) (κ, tt) (x γ, (slave, tt)) tt result)))) (id⊢ 𝓤 _) $
+        await ! tt $ pick ! (λ result. split ! $ move ! (1 ∷ []) $
+        use1 W (some (λ (ends : List Slave × (Unit {0} × Unit {0})). ‵ (lasts slaves-enter.ended (κ, tt) (x γ, (slave, tt)) ends)
+        ⊛ raw (fact 𝓤 ((result ≡ enterRefusal slave table) × ((ends .0) ≡ entered slave table))))) (id⊢ 𝓤 _) $
+        pick ! (λ ends. split ! $ move ! (1 ∷ []) $ heard ! ((result ≡ enterRefusal slave table) × ((ends .0) ≡ entered slave table)) (λ e-result.
+        fsplit ! $ fsplit ! $ move ! (1 ∷ []) $ feqL ! (λ len. move ! (2 ∷ []) $ split ! $ move ! (1 ∷ []) $
+        peeks ! u32 (Is u32) (shows 𝓤 H A u32) result (u-result ∷ []) (λ is-result.
+        let ok-result = subst (Is u32 result) (uint-tells w32 result _ is-result) is-result in
         land ! (from ! (stop !)) (init ! 13 refl (uint-lawful 𝓤 H A W w32 .typed result _ is-result .0)) $ drop ! $
         rewrite ! 12 (λ (z : Val). ‵ (fat fullShare (tyInt w32) l₀ 0 z)) (ap only (uint-tells w32 result _ is-result)) refl $
         returns ! (look ! 12 refl) $ forget ! 4 refl $ forget ! 6 refl $ forget ! 8 refl $ forget ! 10 refl $ forget ! 12 refl $
@@ -132,14 +136,18 @@ module _ {M : Type 1} (𝓤 : URA M) (H : Heap 𝓤) (A : Atoms 𝓤) (W : Given
         keep ! (0 ∷ 1 ∷ []) $ by ! (exits result (ends .0) ok-result len (e-result)))))))))))))
 
 module _ {M : Type 1} (𝓤 : URA M) (H : Heap 𝓤) (A : Atoms 𝓤) (W : Given 𝓤 H A) (mem : Memory → SProp 𝓤) (run : Routine → Fun 𝓤) where
-  walks : (C : Calls 𝓤 H) (Λ : Loops 𝓤 H) → FmC 𝓤 H (W .laws) C → Triple 𝓤 (C #slaves-enter) (The-slaves-enter 𝓤 H A mem run)
+  walks : (C : Calls 𝓤 H) (Λ : Loops 𝓤 H) → FmC 𝓤 H (W .laws) C
+      → Triple 𝓤 (C #slaves-enter) (The-slaves-enter 𝓤 H A mem run)
       → Walks 𝓤 H A f.ended stayed (WpFn 𝓤 H C Λ code.function) (f.clauses 𝓤 H A mem run)
   walks C Λ fm known-slaves-enter =
-      walked 𝓤 H A f.ended stayed (f.clauses 𝓤 H A mem run) (WpFn 𝓤 H C Λ code.function) (λ κs. (slice-vals, (slave-vals, tt))) (λ κs. (mut-slice-tells (named 0) (κs .0) slave-row, (slave-tells, tt)))
+      walked 𝓤 H A f.ended stayed (f.clauses 𝓤 H A mem run) (WpFn 𝓤 H C Λ code.function)
+      (λ κs. (slice-vals, (slave-vals, tt))) (λ κs. (mut-slice-tells (named 0) (κs .0) slave-row, (slave-tells, tt)))
       (λ κs qs bounds a g are. via 𝓤 _ (fst∗ 𝓤 _ (emp 𝓤))
-      (walk 𝓤 H A W mem run (κs .0) (qs .0) (a .0 .ptr .0) (a .0 .ptr .1) (a .0 .name) (a .0 .now) (a .1 .0) (are .0 .0 .1) (are .1 .0) C Λ fm known-slaves-enter))
+      (walk 𝓤 H A W mem run (κs .0) (qs .0) (a .0 .ptr .0) (a .0 .ptr .1) (a .0 .name) (a .0 .now) (a .1 .0)
+      (are .0 .0 .1) (are .1 .0) C Λ fm known-slaves-enter))
 
-meets : {M : Type 1} (𝓤 : URA M) (H : Heap 𝓤) (A : Atoms 𝓤) → Given 𝓤 H A → (mem : Memory → SProp 𝓤) (run : Routine → Fun 𝓤) (𝓣 : Tables 𝓤 H) → Triple 𝓤 (𝓣 .C #slaves-enter) (The-slaves-enter 𝓤 H A mem run)
+meets : {M : Type 1} (𝓤 : URA M) (H : Heap 𝓤) (A : Atoms 𝓤) → Given 𝓤 H A → (mem : Memory → SProp 𝓤) (run : Routine → Fun 𝓤) (𝓣 : Tables 𝓤 H)
+    → Triple 𝓤 (𝓣 .C #slaves-enter) (The-slaves-enter 𝓤 H A mem run)
     → Meets 𝓤 H A f.signature (WpFn 𝓤 H (𝓣 .C) (𝓣 .Λ) code.function) (f.spec 𝓤 H A mem run)
 meets 𝓤 H A W mem run 𝓣 known-slaves-enter =
     walk-meets 𝓤 H A f.ended stayed W
@@ -153,4 +161,5 @@ vbus-slave-enter-spec 𝓤 H 𝓜 𝓖 𝓡 =
     routine-meets 𝓤 H (tripleOf 𝓤 H (𝓖 .A) f.signature (f.spec 𝓤 H (𝓖 .A) (𝓜 .mem) (𝓡 .run)))
     (tables 𝓤 H 𝓜 𝓡 code.env .C) (tables 𝓤 H 𝓜 𝓡 code.env .Λ) #here code.function (code.unfolded 𝓤 H 𝓜 𝓡)
     (meets 𝓤 H (𝓖 .A) (givenOf 𝓤 H 𝓜 𝓖) (𝓜 .mem) (𝓡 .run) (tablesOf 𝓤 H 𝓜 (tables 𝓤 H 𝓜 𝓡 code.env))
-    (cited 𝓤 H (The-slaves-enter 𝓤 H (𝓖 .A) (𝓜 .mem) (𝓡 .run)) 𝓜 𝓡 code.env #slaves-enter slaves-enter-def.routine code.calls-slaves·enter (slaves-enter-thm.met 𝓤 H 𝓜 𝓖 𝓡)))
+    (cited 𝓤 H (The-slaves-enter 𝓤 H (𝓖 .A) (𝓜 .mem) (𝓡 .run)) 𝓜 𝓡 code.env #slaves-enter slaves-enter-def.routine
+    code.calls-slaves·enter (slaves-enter-thm.met 𝓤 H 𝓜 𝓖 𝓡)))

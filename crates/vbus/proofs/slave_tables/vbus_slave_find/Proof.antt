@@ -1,6 +1,5 @@
--- `vbus::slave_tables::vbus_slave_find` meets its contract: a walk of its MIR. Written by scripts/walks/write from its description in
--- scripts/walks/descriptions.py.
--- Assumes nothing.
+-- `vbus::slave_tables::vbus_slave_find` meets its contract: a walk of its MIR.
+-- Written by scripts/walks/write from its description in scripts/walks/descriptions.py. Assumes nothing.
 use mathlib.Core.Path.{_≡_, refl, ap, subst}
 use Prim.Native.Nat.{ℕ}
 use mathlib.Core.List.{[], _∷_, List}
@@ -36,11 +35,10 @@ use denote.Triple.Table.{entered as routine-meets, cited}
 use denote.Triple.Walked.{says, Stays, stay-none-slice, stay-none, walkOf, goes-none-slice, goes-none, Walks, ends-at, walked, walk-meets}
 use denote.Triple.Clauses.{ensured, lasts}
 use denote.Exit.{yes}
-use Rattle.slaves.specs.Answer.{foundOf}
-use Rattle.slaves.specs.declared.Slave.{Slave}
-use Rattle.slaves.specs.declared.Found.{Found}
+use Rattle.slave_plans.specs.Answer.{foundOf}
+use Rattle.slave_plans.specs.declared.Slave.{Slave}
+use Rattle.slave_plans.specs.declared.Found.{Found}
 use Rattle.slaves.proofs.Structs.{slave-row, found-row, found-mir, found-val, found-vals, found-tells, found-makes, found-lawful}
-use Rattle.slaves.proofs.Planned.{}
 use Rattle.slaves.proofs.find as slaves-find
 use Rattle.slaves.proofs.find.Symbol as slaves-find-def
 use Rattle.slaves.proofs.find.Symbol.{name as #slaves-find}
@@ -57,11 +55,13 @@ module _ {M : Type 1} (𝓤 : URA M) (H : Heap 𝓤) (A : Atoms 𝓤) (mem : Mem
   abbrev The-slaves-find : Contract 𝓤
   The-slaves-find = tripleOf 𝓤 H A slaves-find.signature (slaves-find.spec 𝓤 H A mem run)
 
-  slaves-find-says : (κ : Lft) (x : RefT (List Slave)) (x0 : ℕ) (r : Found)
-      → ent 𝓤 (ensured 𝓤 H A slaves-find.ended (slaves-find.clauses 𝓤 H A mem run) (κ, tt) (x, (x0, tt)) tt r) (fact 𝓤 (r ≡ foundOf x0 (x .now)))
-  slaves-find-says κ x x0 r = exE 𝓤 _ (λ ws. snd∗ 𝓤 (sem 𝓤 H A (lasts slaves-find.ended (κ, tt) (x, (x0, tt)) ws)) (fact 𝓤 (r ≡ foundOf x0 (x .now))))
+  slaves-find-says : (κ : Lft) (x : RefT (List Slave)) (y0 : ℕ) (r : Found)
+      → ent 𝓤 (ensured 𝓤 H A slaves-find.ended (slaves-find.clauses 𝓤 H A mem run) (κ, tt) (x, (y0, tt)) tt r) (fact 𝓤 (r ≡ foundOf y0 (x .now)))
+  slaves-find-says κ x y0 r = exE 𝓤 _ (λ ws. snd∗ 𝓤 (sem 𝓤 H A (lasts slaves-find.ended (κ, tt) (x, (y0, tt)) ws)) (fact 𝓤 (r ≡ foundOf y0 (x .now))))
 
-module _ {M : Type 1} (𝓤 : URA M) (H : Heap 𝓤) (A : Atoms 𝓤) (W : Given 𝓤 H A) (mem : Memory → SProp 𝓤) (run : Routine → Fun 𝓤) (κ : Lft) (q : Share) (b o : ℕ) (γ : GName) (table : List Slave) (address : ℕ) (room : Room slave-row (length table)) (is-address : Is u16 address (uint-vals w16 address)) where
+module _ {M : Type 1} (𝓤 : URA M) (H : Heap 𝓤) (A : Atoms 𝓤) (W : Given 𝓤 H A) (mem : Memory → SProp 𝓤) (run : Routine → Fun 𝓤)
+    (κ : Lft) (q : Share) (b o : ℕ) (γ : GName) (table : List Slave) (address : ℕ)
+    (room : Room slave-row (length table)) (is-address : Is u16 address (uint-vals w16 address)) where
   -- the table under a ghost name: its own, or that of a loan
   abbrev x : GName → RefT (List Slave)
   x δ = record { ptr = (b, o); name = δ; now = table }
@@ -75,23 +75,25 @@ module _ {M : Type 1} (𝓤 : URA M) (H : Heap 𝓤) (A : Atoms 𝓤) (W : Given
   abbrev Token : Item 𝓤
   Token = ‵ (flft κ q) ⊛ ‵ ftrue
 
-  abbrev Own : Item 𝓤
-  Own = ‵ (ShrSlice (named 0) κ slave-row .own (x γ) (s ∷ []))
-
+  -- the table as a callee is given it that only looks at it
   abbrev Seen : Lft → GName → Item 𝓤
   Seen κ′ δ = ‵ (ShrSlice (named 0) κ′ slave-row .own (x δ) (s ∷ []))
+
+  abbrev Own : Item 𝓤
+  Own = Seen κ γ
 
   abbrev Post : Val → SProp 𝓤
   Post = walkOf 𝓤 H A f.ended stayed (f.clauses 𝓤 H A mem run) .post (((κ, tt), (q, tt), tt, (x γ, (address, tt)), given), tt)
 
-  exits : (r : Found) → Is found-row r (found-vals r)
-      → r ≡ foundOf address table → ent 𝓤 (⋆ 𝓤 H A (Token ∷ Own ∷ [])) (Post (found-val r))
+  -- what is left to show where the function returns
+  exits : (r : Found) → Is found-row r (found-vals r) → r ≡ foundOf address table
+      → ent 𝓤 (⋆ 𝓤 H A (Token ∷ Own ∷ [])) (Post (found-val r))
   exits r is-r met =
       qed W (Token ∷ Own ∷ []) ∵
-      suffices ! _ (ends-at 𝓤 H A f.ended stayed (f.clauses 𝓤 H A mem run) W (((κ, tt), (q, tt), tt, (x γ, (address, tt)), given), tt) (found-val r) r (tt, (tt, tt)) (tt, (tt, tt))) $
-      says ! met $ frame ! $ nothing ! $
-      owned ! u16 (Is u16) (uint-makes 𝓤 H A W w16) address _ is-address $ fjoin ! $ move ! (1 ∷ 0 ∷ []) $ fjoin ! $ frame ! $
-      owned ! found-row (Is found-row) (found-makes 𝓤 H A) r _ is-r $ done !
+      suffices ! _ (ends-at 𝓤 H A f.ended stayed (f.clauses 𝓤 H A mem run) W (((κ, tt), (q, tt), tt, (x γ, (address, tt)), given), tt) (found-val r) r
+      (tt, (tt, tt)) (tt, (tt, tt))) $
+      says ! met $ frame ! $ nothing ! $ owned ! u16 (Is u16) (uint-makes 𝓤 H A W w16) address _ is-address $ fjoin ! $
+      move ! (1 ∷ 0 ∷ []) $ fjoin ! $ frame ! $ owned ! found-row (Is found-row) (found-makes 𝓤 H A) r _ is-r $ done !
 
   abbrev to-slaves-find : Lft → Share → GName → ℕ → The-slaves-find 𝓤 H A mem run .Ghost
   to-slaves-find κ′ q′ δ y0 = (((κ′, tt), (q′, tt), tt, (x δ, (y0, tt)), (s ∷ [], (uint-vals w16 y0, tt))), tt)
@@ -100,12 +102,14 @@ module _ {M : Type 1} (𝓤 : URA M) (H : Heap 𝓤) (A : Atoms 𝓤) (W : Given
       → ent 𝓤 (⋆ 𝓤 H A ((‵ (flft κ′ q′) ⊛ ‵ ftrue) ∷ Seen κ′ δ ∷ [])) (The-slaves-find 𝓤 H A mem run .pre (to-slaves-find κ′ q′ δ y0))
   goes-slaves-find κ′ q′ δ y0 is-y0 =
       qed W ((‵ (flft κ′ q′) ⊛ ‵ ftrue) ∷ Seen κ′ δ ∷ []) ∵
-      nothing ! $ owned ! u16 (Is u16) (uint-makes 𝓤 H A W w16) y0 _ is-y0 $ fjoin ! $
-      move ! (2 ∷ 0 ∷ []) $ fjoin ! $ move ! (1 ∷ 0 ∷ []) $ join ! $ frame ! $ done !
+      nothing ! $ owned ! u16 (Is u16) (uint-makes 𝓤 H A W w16) y0 _ is-y0 $ fjoin ! $ move ! (2 ∷ 0 ∷ []) $ fjoin ! $ move ! (1 ∷ 0 ∷ []) $ join ! $
+      frame ! $ done !
 
-  module _ (C : Calls 𝓤 H) (Λ : Loops 𝓤 H) (fm : FmC 𝓤 H (W .laws) C) (known-slaves-find : Triple 𝓤 (C #slaves-find) (The-slaves-find 𝓤 H A mem run)) where
-    -- of a result r: u-r is its machine value, e-r what the callee ensures, is-r and ok-r that it is a value of its type
-    walk : ent 𝓤 (onEntry 𝓤 H A f.signature (κ, tt) (q, tt) (x γ, (address, tt)) given) (WpFn 𝓤 H C Λ code.function (s ∷ vint w16 address ∷ []) Post)
+  module _ (C : Calls 𝓤 H) (Λ : Loops 𝓤 H) (fm : FmC 𝓤 H (W .laws) C)
+      (known-slaves-find : Triple 𝓤 (C #slaves-find) (The-slaves-find 𝓤 H A mem run)) where
+    -- of a result r: u-r is its machine value, e-r what the callee ensures of it, is-r and ok-r that it is a value of its type
+    walk : ent 𝓤 (onEntry 𝓤 H A f.signature (κ, tt) (q, tt) (x γ, (address, tt)) given)
+        (WpFn 𝓤 H C Λ code.function (s ∷ vint w16 address ∷ []) Post)
     walk =
         qed W (Token ∷ ‵ (owns (ShrSlice (named 0) κ slave-row ∷ u16 ∷ []) (x γ, (address, tt)) given) ∷ []) ∵
         enter ! C Λ code.function (s ∷ vint w16 address ∷ []) _ $
@@ -113,17 +117,21 @@ module _ {M : Type 1} (𝓤 : URA M) (H : Heap 𝓤) (A : Atoms 𝓤) (W : Given
         pass1 ! (init ! 2 refl (tt, (tt, (record { fits = room .0 }, tt)))) $
         pass1 ! (init ! 0 refl (uint-lawful 𝓤 H A W w16 .typed address _ is-address .0)) $ pass0 ! $
         move ! (7 ∷ []) $ fsplit ! $ move ! (1 ∷ []) $ drop ! $ move ! (7 ∷ []) $
-        -- [the token; the table; locals, the last first]
+        -- [the token; the table; the locals, the last first]
         -- `find`: what the table's borrow owns is had twice, and one copy is kept
-        move ! (1 ∷ []) $ use1 W (Seen κ γ ⊛ Seen κ γ) (shr-slice-copy 𝓤 H A W (named 0) κ slave-row .twice (x γ) (s ∷ [])) $ split ! $
-        move ! (2 ∷ 0 ∷ []) $ use2 W (raw (The-slaves-find 𝓤 H A mem run .pre (to-slaves-find κ q γ address))) (goes-slaves-find κ q γ address is-address) $
+        move ! (1 ∷ []) $
+        use1 W (Seen κ γ ⊛ Seen κ γ) (shr-slice-copy 𝓤 H A W (named 0) κ slave-row .twice (x γ) (s ∷ [])) $
+        split ! $ move ! (2 ∷ 0 ∷ []) $
+        use2 W (raw (The-slaves-find 𝓤 H A mem run .pre (to-slaves-find κ q γ address))) (goes-slaves-find κ q γ address is-address) $
         calls-at ! fm (The-slaves-find 𝓤 H A mem run) known-slaves-find (to-slaves-find κ q γ address)
         (and-then ! (load ! (from ! (stop !)) (look ! 4 refl)) (and-then ! (load ! (from ! (stop !)) (look ! 2 refl)) (no-more !))) (λ u-result.
         use1 W (later (some (λ (result : Found). (Token ⊛ ‵ (found-row .own result (u-result ∷ [])))
-        ⊛ raw (ensured 𝓤 H A slaves-find.ended (slaves-find.clauses 𝓤 H A mem run) (κ, tt) (x γ, (address, tt)) tt result)))) (id⊢ 𝓤 _) $ await ! tt $ pick ! (λ result.
-        split ! $ move ! (1 ∷ []) $ use1 W (raw (fact 𝓤 (result ≡ foundOf address table))) (slaves-find-says 𝓤 H A mem run κ (x γ) address result) $
+        ⊛ raw (ensured 𝓤 H A slaves-find.ended (slaves-find.clauses 𝓤 H A mem run) (κ, tt) (x γ, (address, tt)) tt result)))) (id⊢ 𝓤 _) $
+        await ! tt $ pick ! (λ result. split ! $ move ! (1 ∷ []) $
+        use1 W (raw (fact 𝓤 (result ≡ foundOf address table))) (slaves-find-says 𝓤 H A mem run κ (x γ) address result) $
         heard ! (result ≡ foundOf address table) (λ e-result. split ! $ move ! (1 ∷ []) $
-        peeks ! found-row (Is found-row) (shows 𝓤 H A found-row) result (u-result ∷ []) (λ is-result. let ok-result = subst (Is found-row result) (found-tells result _ is-result) is-result in
+        peeks ! found-row (Is found-row) (shows 𝓤 H A found-row) result (u-result ∷ []) (λ is-result.
+        let ok-result = subst (Is found-row result) (found-tells result _ is-result) is-result in
         land ! (from ! (stop !)) (init ! 7 refl (found-lawful 𝓤 H A W .typed result _ is-result .0)) $ drop ! $
         rewrite ! 6 (λ (z : Val). ‵ (fat fullShare found-mir l₀ 0 z)) (ap only (found-tells result _ is-result)) refl $
         returns ! (look ! 6 refl) $ forget ! 2 refl $ forget ! 4 refl $ forget ! 6 refl $
@@ -131,14 +139,18 @@ module _ {M : Type 1} (𝓤 : URA M) (H : Heap 𝓤) (A : Atoms 𝓤) (W : Given
         keep ! (0 ∷ 1 ∷ []) $ by ! (exits result ok-result (e-result)))))))))
 
 module _ {M : Type 1} (𝓤 : URA M) (H : Heap 𝓤) (A : Atoms 𝓤) (W : Given 𝓤 H A) (mem : Memory → SProp 𝓤) (run : Routine → Fun 𝓤) where
-  walks : (C : Calls 𝓤 H) (Λ : Loops 𝓤 H) → FmC 𝓤 H (W .laws) C → Triple 𝓤 (C #slaves-find) (The-slaves-find 𝓤 H A mem run)
+  walks : (C : Calls 𝓤 H) (Λ : Loops 𝓤 H) → FmC 𝓤 H (W .laws) C
+      → Triple 𝓤 (C #slaves-find) (The-slaves-find 𝓤 H A mem run)
       → Walks 𝓤 H A f.ended stayed (WpFn 𝓤 H C Λ code.function) (f.clauses 𝓤 H A mem run)
   walks C Λ fm known-slaves-find =
-      walked 𝓤 H A f.ended stayed (f.clauses 𝓤 H A mem run) (WpFn 𝓤 H C Λ code.function) (λ κs. (slice-vals, (uint-vals w16, tt))) (λ κs. (shr-slice-tells (named 0) (κs .0) slave-row, (uint-tells w16, tt)))
+      walked 𝓤 H A f.ended stayed (f.clauses 𝓤 H A mem run) (WpFn 𝓤 H C Λ code.function)
+      (λ κs. (slice-vals, (uint-vals w16, tt))) (λ κs. (shr-slice-tells (named 0) (κs .0) slave-row, (uint-tells w16, tt)))
       (λ κs qs bounds a g are. via 𝓤 _ (fst∗ 𝓤 _ (emp 𝓤))
-      (walk 𝓤 H A W mem run (κs .0) (qs .0) (a .0 .ptr .0) (a .0 .ptr .1) (a .0 .name) (a .0 .now) (a .1 .0) (are .0 .0 .1) (are .1 .0) C Λ fm known-slaves-find))
+      (walk 𝓤 H A W mem run (κs .0) (qs .0) (a .0 .ptr .0) (a .0 .ptr .1) (a .0 .name) (a .0 .now) (a .1 .0)
+      (are .0 .0 .1) (are .1 .0) C Λ fm known-slaves-find))
 
-meets : {M : Type 1} (𝓤 : URA M) (H : Heap 𝓤) (A : Atoms 𝓤) → Given 𝓤 H A → (mem : Memory → SProp 𝓤) (run : Routine → Fun 𝓤) (𝓣 : Tables 𝓤 H) → Triple 𝓤 (𝓣 .C #slaves-find) (The-slaves-find 𝓤 H A mem run)
+meets : {M : Type 1} (𝓤 : URA M) (H : Heap 𝓤) (A : Atoms 𝓤) → Given 𝓤 H A → (mem : Memory → SProp 𝓤) (run : Routine → Fun 𝓤) (𝓣 : Tables 𝓤 H)
+    → Triple 𝓤 (𝓣 .C #slaves-find) (The-slaves-find 𝓤 H A mem run)
     → Meets 𝓤 H A f.signature (WpFn 𝓤 H (𝓣 .C) (𝓣 .Λ) code.function) (f.spec 𝓤 H A mem run)
 meets 𝓤 H A W mem run 𝓣 known-slaves-find =
     walk-meets 𝓤 H A f.ended stayed W
@@ -152,4 +164,5 @@ vbus-slave-find-spec 𝓤 H 𝓜 𝓖 𝓡 =
     routine-meets 𝓤 H (tripleOf 𝓤 H (𝓖 .A) f.signature (f.spec 𝓤 H (𝓖 .A) (𝓜 .mem) (𝓡 .run)))
     (tables 𝓤 H 𝓜 𝓡 code.env .C) (tables 𝓤 H 𝓜 𝓡 code.env .Λ) #here code.function (code.unfolded 𝓤 H 𝓜 𝓡)
     (meets 𝓤 H (𝓖 .A) (givenOf 𝓤 H 𝓜 𝓖) (𝓜 .mem) (𝓡 .run) (tablesOf 𝓤 H 𝓜 (tables 𝓤 H 𝓜 𝓡 code.env))
-    (cited 𝓤 H (The-slaves-find 𝓤 H (𝓖 .A) (𝓜 .mem) (𝓡 .run)) 𝓜 𝓡 code.env #slaves-find slaves-find-def.routine code.calls-slaves·find (slaves-find-thm.met 𝓤 H 𝓜 𝓖 𝓡)))
+    (cited 𝓤 H (The-slaves-find 𝓤 H (𝓖 .A) (𝓜 .mem) (𝓡 .run)) 𝓜 𝓡 code.env #slaves-find slaves-find-def.routine
+    code.calls-slaves·find (slaves-find-thm.met 𝓤 H 𝓜 𝓖 𝓡)))

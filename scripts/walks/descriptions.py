@@ -1,0 +1,58 @@
+"""The walked functions, and what they call; their code and contracts are read from the sources.
+
+A new parameter or call needs no more than scripts/walks/write, but for a lemma that is to know of it.
+"""
+
+from model import contract, number, struct, walk
+
+# The types that the walked functions pass. crates/slaves/proofs/Structs.antt has the lemmas of a struct, and one for each field that is read.
+TYPES = {
+    "u16": number("u16", "w16"),
+    "u32": number("u32", "w32"),
+    "usize": number("usize", "w64"),
+    "Slave": struct("Slave", {"address": "u16", "product": "u32", "device": "u32"}),
+    "Found": struct("Found", {"number": "u32", "product": "u32", "device": "u32"}),
+    "Plan": struct("Plan", {"number": "u32", "index": "usize", "entry": "Slave"}),
+}
+
+# Where what the contracts name is defined: modules of crates/slave_plans/specs.
+DEFINITIONS = {
+    "Table": "none indexOf",
+    "Answer": "enterRefusal entered foundBy foundOf changeRefusal changed removeRefusal removed",
+    "Plan": "enterPlan changePlan removePlan",
+    "declared.Slave": "Slave",
+    "declared.Found": "Found",
+    "declared.Plan": "Plan",
+}
+
+# The lemmas that the walks share: modules of crates/slaves/proofs, beside Structs, which has the types' own.
+LEMMAS = {
+    "Lending": "LentShared lends-shared shared-back",
+    "Planned": "enter-meets find-meets change-meets remove-meets",
+}
+
+# What is called and has a proof of its own, by hand or by the borrow checker.
+CALLEES = [
+    contract(path)
+    for path in [
+        "slaves::seek",
+        "slaves::entry_at",
+        "slaves::put",
+        "slave_plans::enter",
+        "slave_plans::find",
+        "slave_plans::change",
+        "slave_plans::remove",
+    ]
+]
+
+# `because` is why the contract holds: of a call's result r, e-r is what the callee ensures of it.
+WALKS = [
+    walk("slaves::enter", because="enter-meets {slave} {table} e-at e-free e-plan e-put"),
+    walk("slaves::find", because="find-meets {address} {table} e-at e-entry e-result"),
+    walk("slaves::change_address", because="change-meets {from} {to} {table} e-at e-entry e-other e-plan e-put"),
+    walk("slaves::remove", because="remove-meets {address} {table} e-at e-plan e-put"),
+    walk("vbus::slave_tables::vbus_slave_enter", because="e-result"),
+    walk("vbus::slave_tables::vbus_slave_find", because="e-result"),
+    walk("vbus::slave_tables::vbus_slave_change_address", because="e-result"),
+    walk("vbus::slave_tables::vbus_slave_remove", because="e-result"),
+]
