@@ -17,9 +17,9 @@ TYPES = {
 
 # Where what the contracts name is defined: modules of crates/slave_plans/specs.
 DEFINITIONS = {
-    "Table": "none indexOf",
+    "Table": "none",
     "Answer": "enterRefusal entered foundBy foundOf changeRefusal changed removeRefusal removed",
-    "Plan": "enterPlan changePlan removePlan",
+    "Plan": "indexSought enterPlan changePlan removePlan",
     "declared.Slave": "Slave",
     "declared.Found": "Found",
     "declared.Plan": "Plan",

@@ -8,7 +8,19 @@ use borrow.Author.Tests.{eq-eqb, ne-eqb, le-leb, lt-leb, lt-ltb, le-ltb}
 use Rattle.basics.specs.Choice.{choose, first}
 use Rattle.slave_id.specs.SlaveId.{tooWide}
 use Rattle.slave_plans.specs.Answer.{notSlave, isAbsent, isTaken, enterLines, findLines, foundBy, changeLines}
+use Rattle.slave_plans.specs.Plan.{searchStart}
 use Rattle.slave_plans.specs.declared.Slave.{Slave}
+
+-- ── where the search begins
+
+module _ (size : ℕ) where
+  pub start-right : size ≡ 32 → 0 ≡ searchStart size
+  unfolding choose
+  start-right e = rw (eq-eqb size 32 e)
+
+  pub start-wrong : size ≢ 32 → size ≡ searchStart size
+  unfolding choose
+  start-wrong n = rw (ne-eqb size 32 n)
 
 -- ── the tests
 

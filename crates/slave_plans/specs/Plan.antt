@@ -1,11 +1,21 @@
 -- What each operation plans, from what was seen of the table: the answer, and an entry with the index where it is put.
 use Prim.Native.Nat.{ℕ}
+use mathlib.Core.List.{List}
 use lib.Dec.{eqb}
+use lib.ListN.{length}
 use Rattle.basics.specs.Choice.{choose, first}
-use Rattle.slave_plans.specs.Table.{none}
+use Rattle.slave_plans.specs.Table.{none, indexOf}
 use Rattle.slave_plans.specs.Answer.{enterLines, findLines, changeLines, readdressed}
 use Rattle.slave_plans.specs.declared.Slave.{Slave}
 use Rattle.slave_plans.specs.declared.Plan.{Plan}
+
+-- where the search for an address begins: in a table of a wrong length behind the last entry, so that none of it is looked at before 24 is given
+abbrev pub searchStart : ℕ → ℕ
+searchStart size = choose (eqb size 32) 0 size
+
+-- what the search gives
+abbrev pub indexSought : ℕ → List Slave → ℕ
+indexSought address table = choose (eqb (length table) 32) (indexOf address table) (length table)
 
 -- by the refusal's number or 0: an entry to be put or, refused, nothing, which is an entry past the end
 abbrev pub planBy : ℕ → ℕ → ℕ → Slave → Plan

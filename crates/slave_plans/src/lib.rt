@@ -5,7 +5,7 @@ ghost use lib.Dec.{eqb};
 ghost use Rattle.basics.specs.Choice.{first};
 ghost use Rattle.slave_plans.specs.Answer.{notSlave, isAbsent, isTaken, enterLines, findLines, foundBy, changeLines};
 ghost use Rattle.slave_plans.specs.Table;
-ghost use Rattle.slave_plans.specs.Plan.{planBy, enterPlan, changePlan, removePlan};
+ghost use Rattle.slave_plans.specs.Plan.{searchStart, planBy, enterPlan, changePlan, removePlan};
 
 // An entry of the table. It is free exactly if its address is 0.
 #[repr(C)]
@@ -28,6 +28,16 @@ pub struct Plan {
     pub number: u32,
     pub index: usize,
     pub entry: Slave,
+}
+
+// Where to look for an address first. In a table of a wrong length, behind the last entry: it is refused, and may not be there whole.
+pub fn search_start(size: usize) -> usize
+    ensures { λ r. ⌜ r ≡ searchStart size ⌝ }
+{
+    if size == 32 {
+        return 0;
+    }
+    size
 }
 
 pub fn has_address(entry: Slave, address: u16) -> bool

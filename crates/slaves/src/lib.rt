@@ -2,9 +2,9 @@
 // decides, crate slave_plans does, on plain values.
 ghost use mathlib.Core.Path.{_≡_};
 ghost use lib.ListN.{set, getD};
-ghost use Rattle.slave_plans.specs.Table.{none, indexOf};
+ghost use Rattle.slave_plans.specs.Table.{none};
+ghost use Rattle.slave_plans.specs.Plan.{indexSought};
 ghost use Rattle.slave_plans.specs.Answer.{enterRefusal, entered, foundOf, changeRefusal, changed, removeRefusal, removed};
-
 use slave_plans::Found;
 use slave_plans::Slave;
 
@@ -32,11 +32,11 @@ fn put(table: &mut [Slave], index: usize, entry: Slave)
     table[index] = entry;
 }
 
-// The lowest index whose entry has the address, or the table's length.
+// The lowest index whose entry has the address, or the table's length. In a table of a wrong length no entry is looked at.
 fn seek(table: &[Slave], address: u16) -> usize
-    ensures { λ r. ⌜ r ≡ indexOf address (now (table .entry)) ⌝ }
+    ensures { λ r. ⌜ r ≡ indexSought address (now (table .entry)) ⌝ }
 {
-    let mut index = 0;
+    let mut index = slave_plans::search_start(table.len());
     while index < table.len() {
         let entry = entry_at(table, index);
         if slave_plans::has_address(entry, address) {

@@ -38,9 +38,9 @@ use denote.Triple.Table.{entered as routine-meets, cited}
 use denote.Triple.Walked.{says, Stays, gave-slice, stay-none, walkOf, goes-gave-slice, goes-none, Walks, ends-at, walked, walk-meets}
 use denote.Triple.Clauses.{ensured, lasts}
 use denote.Exit.{yes}
-use Rattle.slave_plans.specs.Table.{none, indexOf}
+use Rattle.slave_plans.specs.Table.{none}
 use Rattle.slave_plans.specs.Answer.{changeRefusal, changed}
-use Rattle.slave_plans.specs.Plan.{changePlan}
+use Rattle.slave_plans.specs.Plan.{indexSought, changePlan}
 use Rattle.slave_plans.specs.declared.Slave.{Slave}
 use Rattle.slave_plans.specs.declared.Plan.{Plan}
 use Rattle.slaves.proofs.Structs.{slave-row, slave-mir, slave-vals, slave-tells, slave-makes, slave-lawful, plan-row, plan-mir, plan-tells, plan-lawful, plan-number, plan-index, plan-entry}
@@ -75,8 +75,8 @@ module _ {M : Type 1} (𝓤 : URA M) (H : Heap 𝓤) (A : Atoms 𝓤) (mem : Mem
   The-seek = tripleOf 𝓤 H A seek.signature (seek.spec 𝓤 H A mem run)
 
   seek-says : (κ : Lft) (x : RefT (List Slave)) (y0 : ℕ) (r : ℕ)
-      → ent 𝓤 (ensured 𝓤 H A seek.ended (seek.clauses 𝓤 H A mem run) (κ, tt) (x, (y0, tt)) tt r) (fact 𝓤 (r ≡ indexOf y0 (x .now)))
-  seek-says κ x y0 r = exE 𝓤 _ (λ ws. snd∗ 𝓤 (sem 𝓤 H A (lasts seek.ended (κ, tt) (x, (y0, tt)) ws)) (fact 𝓤 (r ≡ indexOf y0 (x .now))))
+      → ent 𝓤 (ensured 𝓤 H A seek.ended (seek.clauses 𝓤 H A mem run) (κ, tt) (x, (y0, tt)) tt r) (fact 𝓤 (r ≡ indexSought y0 (x .now)))
+  seek-says κ x y0 r = exE 𝓤 _ (λ ws. snd∗ 𝓤 (sem 𝓤 H A (lasts seek.ended (κ, tt) (x, (y0, tt)) ws)) (fact 𝓤 (r ≡ indexSought y0 (x .now))))
 
   abbrev The-entry-at : Contract 𝓤
   The-entry-at = tripleOf 𝓤 H A entry-at.signature (entry-at.spec 𝓤 H A mem run)
@@ -221,8 +221,8 @@ module _ {M : Type 1} (𝓤 : URA M) (H : Heap 𝓤) (A : Atoms 𝓤) (W : Given
         use1 W (later (some (λ (at : ℕ). ((‵ (flft (ν ∷ []) fullShare) ⊛ ‵ ftrue) ⊛ ‵ (usize .own at (u-at ∷ [])))
         ⊛ raw (ensured 𝓤 H A seek.ended (seek.clauses 𝓤 H A mem run) ((ν ∷ []), tt) (x δ, (from′, tt)) tt at)))) (id⊢ 𝓤 _) $
         await ! tt $ pick ! (λ at. split ! $ move ! (1 ∷ []) $
-        use1 W (raw (fact 𝓤 (at ≡ indexOf from′ table))) (seek-says 𝓤 H A mem run (ν ∷ []) (x δ) from′ at) $
-        heard ! (at ≡ indexOf from′ table) (λ e-at. split ! $ move ! (1 ∷ []) $
+        use1 W (raw (fact 𝓤 (at ≡ indexSought from′ table))) (seek-says 𝓤 H A mem run (ν ∷ []) (x δ) from′ at) $
+        heard ! (at ≡ indexSought from′ table) (λ e-at. split ! $ move ! (1 ∷ []) $
         peeks ! usize (Is usize) (shows 𝓤 H A usize) at (u-at ∷ []) (λ is-at.
         let ok-at = subst (Is usize at) (uint-tells w64 at _ is-at) is-at in
         land ! (from ! (stop !)) (init ! 30 refl (uint-lawful 𝓤 H A W w64 .typed at _ is-at .0)) $ drop ! $
@@ -263,8 +263,8 @@ module _ {M : Type 1} (𝓤 : URA M) (H : Heap 𝓤) (A : Atoms 𝓤) (W : Given
         use1 W (later (some (λ (other : ℕ). ((‵ (flft (ν ∷ []) fullShare) ⊛ ‵ ftrue) ⊛ ‵ (usize .own other (u-other ∷ [])))
         ⊛ raw (ensured 𝓤 H A seek.ended (seek.clauses 𝓤 H A mem run) ((ν ∷ []), tt) (x δ, (to, tt)) tt other)))) (id⊢ 𝓤 _) $
         await ! tt $ pick ! (λ other. split ! $ move ! (1 ∷ []) $
-        use1 W (raw (fact 𝓤 (other ≡ indexOf to table))) (seek-says 𝓤 H A mem run (ν ∷ []) (x δ) to other) $
-        heard ! (other ≡ indexOf to table) (λ e-other. split ! $ move ! (1 ∷ []) $
+        use1 W (raw (fact 𝓤 (other ≡ indexSought to table))) (seek-says 𝓤 H A mem run (ν ∷ []) (x δ) to other) $
+        heard ! (other ≡ indexSought to table) (λ e-other. split ! $ move ! (1 ∷ []) $
         peeks ! usize (Is usize) (shows 𝓤 H A usize) other (u-other ∷ []) (λ is-other.
         let ok-other = subst (Is usize other) (uint-tells w64 other _ is-other) is-other in
         land ! (from ! (stop !)) (init ! 26 refl (uint-lawful 𝓤 H A W w64 .typed other _ is-other .0)) $ drop ! $

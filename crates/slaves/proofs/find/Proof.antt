@@ -36,8 +36,9 @@ use denote.Triple.Table.{entered as routine-meets, cited}
 use denote.Triple.Walked.{says, Stays, stay-none-slice, stay-none, walkOf, goes-none-slice, goes-none, Walks, ends-at, walked, walk-meets}
 use denote.Triple.Clauses.{ensured, lasts}
 use denote.Exit.{yes}
-use Rattle.slave_plans.specs.Table.{none, indexOf}
+use Rattle.slave_plans.specs.Table.{none}
 use Rattle.slave_plans.specs.Answer.{foundBy, foundOf}
+use Rattle.slave_plans.specs.Plan.{indexSought}
 use Rattle.slave_plans.specs.declared.Slave.{Slave}
 use Rattle.slave_plans.specs.declared.Found.{Found}
 use Rattle.slaves.proofs.Structs.{slave-row, slave-mir, slave-vals, slave-tells, slave-makes, slave-lawful, found-row, found-mir, found-val, found-vals, found-tells, found-makes, found-lawful}
@@ -67,8 +68,8 @@ module _ {M : Type 1} (𝓤 : URA M) (H : Heap 𝓤) (A : Atoms 𝓤) (mem : Mem
   The-seek = tripleOf 𝓤 H A seek.signature (seek.spec 𝓤 H A mem run)
 
   seek-says : (κ : Lft) (x : RefT (List Slave)) (y0 : ℕ) (r : ℕ)
-      → ent 𝓤 (ensured 𝓤 H A seek.ended (seek.clauses 𝓤 H A mem run) (κ, tt) (x, (y0, tt)) tt r) (fact 𝓤 (r ≡ indexOf y0 (x .now)))
-  seek-says κ x y0 r = exE 𝓤 _ (λ ws. snd∗ 𝓤 (sem 𝓤 H A (lasts seek.ended (κ, tt) (x, (y0, tt)) ws)) (fact 𝓤 (r ≡ indexOf y0 (x .now))))
+      → ent 𝓤 (ensured 𝓤 H A seek.ended (seek.clauses 𝓤 H A mem run) (κ, tt) (x, (y0, tt)) tt r) (fact 𝓤 (r ≡ indexSought y0 (x .now)))
+  seek-says κ x y0 r = exE 𝓤 _ (λ ws. snd∗ 𝓤 (sem 𝓤 H A (lasts seek.ended (κ, tt) (x, (y0, tt)) ws)) (fact 𝓤 (r ≡ indexSought y0 (x .now))))
 
   abbrev The-entry-at : Contract 𝓤
   The-entry-at = tripleOf 𝓤 H A entry-at.signature (entry-at.spec 𝓤 H A mem run)
@@ -178,8 +179,8 @@ module _ {M : Type 1} (𝓤 : URA M) (H : Heap 𝓤) (A : Atoms 𝓤) (W : Given
         use1 W (later (some (λ (at : ℕ). (Token ⊛ ‵ (usize .own at (u-at ∷ [])))
         ⊛ raw (ensured 𝓤 H A seek.ended (seek.clauses 𝓤 H A mem run) (κ, tt) (x γ, (address, tt)) tt at)))) (id⊢ 𝓤 _) $
         await ! tt $ pick ! (λ at. split ! $ move ! (1 ∷ []) $
-        use1 W (raw (fact 𝓤 (at ≡ indexOf address table))) (seek-says 𝓤 H A mem run κ (x γ) address at) $
-        heard ! (at ≡ indexOf address table) (λ e-at. split ! $ move ! (1 ∷ []) $
+        use1 W (raw (fact 𝓤 (at ≡ indexSought address table))) (seek-says 𝓤 H A mem run κ (x γ) address at) $
+        heard ! (at ≡ indexSought address table) (λ e-at. split ! $ move ! (1 ∷ []) $
         peeks ! usize (Is usize) (shows 𝓤 H A usize) at (u-at ∷ []) (λ is-at.
         let ok-at = subst (Is usize at) (uint-tells w64 at _ is-at) is-at in
         land ! (from ! (stop !)) (init ! 7 refl (uint-lawful 𝓤 H A W w64 .typed at _ is-at .0)) $ drop ! $

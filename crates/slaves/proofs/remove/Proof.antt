@@ -38,9 +38,8 @@ use denote.Triple.Table.{entered as routine-meets, cited}
 use denote.Triple.Walked.{says, Stays, gave-slice, stay-none, walkOf, goes-gave-slice, goes-none, Walks, ends-at, walked, walk-meets}
 use denote.Triple.Clauses.{ensured, lasts}
 use denote.Exit.{yes}
-use Rattle.slave_plans.specs.Table.{indexOf}
 use Rattle.slave_plans.specs.Answer.{removeRefusal, removed}
-use Rattle.slave_plans.specs.Plan.{removePlan}
+use Rattle.slave_plans.specs.Plan.{indexSought, removePlan}
 use Rattle.slave_plans.specs.declared.Slave.{Slave}
 use Rattle.slave_plans.specs.declared.Plan.{Plan}
 use Rattle.slaves.proofs.Structs.{slave-row, slave-vals, slave-makes, plan-row, plan-mir, plan-tells, plan-lawful, plan-number, plan-index, plan-entry}
@@ -71,8 +70,8 @@ module _ {M : Type 1} (𝓤 : URA M) (H : Heap 𝓤) (A : Atoms 𝓤) (mem : Mem
   The-seek = tripleOf 𝓤 H A seek.signature (seek.spec 𝓤 H A mem run)
 
   seek-says : (κ : Lft) (x : RefT (List Slave)) (y0 : ℕ) (r : ℕ)
-      → ent 𝓤 (ensured 𝓤 H A seek.ended (seek.clauses 𝓤 H A mem run) (κ, tt) (x, (y0, tt)) tt r) (fact 𝓤 (r ≡ indexOf y0 (x .now)))
-  seek-says κ x y0 r = exE 𝓤 _ (λ ws. snd∗ 𝓤 (sem 𝓤 H A (lasts seek.ended (κ, tt) (x, (y0, tt)) ws)) (fact 𝓤 (r ≡ indexOf y0 (x .now))))
+      → ent 𝓤 (ensured 𝓤 H A seek.ended (seek.clauses 𝓤 H A mem run) (κ, tt) (x, (y0, tt)) tt r) (fact 𝓤 (r ≡ indexSought y0 (x .now)))
+  seek-says κ x y0 r = exE 𝓤 _ (λ ws. snd∗ 𝓤 (sem 𝓤 H A (lasts seek.ended (κ, tt) (x, (y0, tt)) ws)) (fact 𝓤 (r ≡ indexSought y0 (x .now))))
 
   abbrev The-slave-plans-remove : Contract 𝓤
   The-slave-plans-remove = tripleOf 𝓤 H A slave-plans-remove.signature (slave-plans-remove.spec 𝓤 H A mem run)
@@ -191,8 +190,8 @@ module _ {M : Type 1} (𝓤 : URA M) (H : Heap 𝓤) (A : Atoms 𝓤) (W : Given
         use1 W (later (some (λ (at : ℕ). ((‵ (flft (ν ∷ []) fullShare) ⊛ ‵ ftrue) ⊛ ‵ (usize .own at (u-at ∷ [])))
         ⊛ raw (ensured 𝓤 H A seek.ended (seek.clauses 𝓤 H A mem run) ((ν ∷ []), tt) (x δ, (address, tt)) tt at)))) (id⊢ 𝓤 _) $
         await ! tt $ pick ! (λ at. split ! $ move ! (1 ∷ []) $
-        use1 W (raw (fact 𝓤 (at ≡ indexOf address table))) (seek-says 𝓤 H A mem run (ν ∷ []) (x δ) address at) $
-        heard ! (at ≡ indexOf address table) (λ e-at. split ! $ move ! (1 ∷ []) $
+        use1 W (raw (fact 𝓤 (at ≡ indexSought address table))) (seek-says 𝓤 H A mem run (ν ∷ []) (x δ) address at) $
+        heard ! (at ≡ indexSought address table) (λ e-at. split ! $ move ! (1 ∷ []) $
         peeks ! usize (Is usize) (shows 𝓤 H A usize) at (u-at ∷ []) (λ is-at.
         let ok-at = subst (Is usize at) (uint-tells w64 at _ is-at) is-at in
         land ! (from ! (stop !)) (init ! 18 refl (uint-lawful 𝓤 H A W w64 .typed at _ is-at .0)) $ drop ! $
