@@ -1,9 +1,10 @@
 -- When each operation is refused, and when it isn't: in terms of the table's entries.
 use Prim.Native.Nat.{ℕ, _<_, _^_}
 use native.Mathlib.Omega.{arith}
-use mathlib.Core.Path.{_≡_, refl, sym, subst}
-use mathlib.Core.Logic.{_≢_, _↔_}
-use mathlib.Core.Bool.{Bool, true, false, not, _&&_}
+use mathlib.Core.Path.{_≡_, refl, sym, ap, subst, _∙_}
+use native.Mathlib.Decide.{ℕ-discrete}
+use mathlib.Core.Logic.{_≢_, _↔_, dite}
+use mathlib.Core.Bool.{Bool, false, not, _&&_}
 use mathlib.Core.List.{List}
 use lib.Dec.{eqb, leb, ltb}
 use lib.ListN.{length}
@@ -45,16 +46,23 @@ module _ (a : ℕ) (t : List Slave) where
     λ (some, held). rw (ne-eqb _ _ some) (held-below .1 held),
   )
 
-taken-exactly : (from to : ℕ) (t : List Slave) → (isTaken (length t) (indexOf to t) from to ≡ false) ↔ (to ≢ from → Nowhere to t)
+-- a change to the address that the slave has is never refused as 15
+pub same-free : (size other a : ℕ) → isTaken size other a a ≡ false
 unfolding isTaken
+same-free size other a = ap (λ (same : Bool). not same && ltb other size) (eq-eqb a a refl)
+
+other-taken : (size other from to : ℕ) → to ≢ from → isTaken size other from to ≡ ltb other size
+unfolding isTaken
+other-taken size other from to new = ap (λ (same : Bool). not same && ltb other size) (ne-eqb to from new)
+
+taken-exactly : (from to : ℕ) (t : List Slave) → (isTaken (length t) (indexOf to t) from to ≡ false) ↔ (to ≢ from → Nowhere to t)
 taken-exactly from to t = (
-  λ e other. nowhere-past to t .0 (rw (ne-eqb _ _ other) at e),
-  λ fresh. go (eqb to from) refl fresh,
+  λ e new. nowhere-past to t .0 (sym (other-taken _ _ from to new) ∙ e),
+  λ fresh.
+      dite (ℕ-discrete to from)
+      (λ same. subst (λ (a : ℕ). isTaken (length t) (indexOf to t) a to ≡ false) same (same-free _ _ to))
+      (λ new. other-taken _ _ from to new ∙ nowhere-past to t .1 (fresh new)),
 )
-  where
-    go : (b : Bool) → eqb to from ≡ b → (to ≢ from → Nowhere to t) → (not b && ltb (indexOf to t) (length t)) ≡ false
-    go true e fresh = refl
-    go false e fresh = nowhere-past to t .1 (fresh (eqb-false _ _ e))
 
 -- 18: both identifiers have 24 bits at most
 wide-exactly : (p d : ℕ) → (tooWide p d ≡ false) ↔ ((p < 2 ^ 24) × (d < 2 ^ 24))
