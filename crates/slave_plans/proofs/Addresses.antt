@@ -28,10 +28,10 @@ slave-exactly a = (
       let rest = neither (hasBit 7 a || hasBit 15 a) _ (class .1) in
       let bits = neither (hasBit 7 a) (hasBit 15 a) (rest .0) in
       record {
-        class = eqb-true _ _ (not-false _ (class .0));
-        bit-7 = eqb-false _ _ (bits .0);
-        bit-15 = eqb-false _ _ (bits .1);
-        number = eqb-false _ _ (rest .1);
+        class = eqb-true (a / 2 ^ 12 % 2 ^ 3) 2 (not-false _ (class .0));
+        bit-7 = eqb-false (a / 2 ^ 7 % 2) 1 (bits .0);
+        bit-15 = eqb-false (a / 2 ^ 15 % 2) 1 (bits .1);
+        number = eqb-false (a / 2 ^ 4 % 2 ^ 8) 0 (rest .1);
       },
   λ s. rw (eq-eqb _ _ (s .class), ne-eqb _ _ (s .bit-7), ne-eqb _ _ (s .bit-15), ne-eqb _ _ (s .number)),
 )
