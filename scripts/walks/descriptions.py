@@ -1,6 +1,6 @@
-"""The walked functions, and what they call; their code and contracts are read from the sources.
+"""Which functions are walked, why each meets its contract, and what they call; code and contracts are read from the sources.
 
-A new parameter or call needs no more than scripts/walks/write, but for a lemma that is to know of it.
+Where a function changes, run scripts/walks/write. What is new to all of them is added here: a type, a callee, the module of a definition.
 """
 
 from model import contract, number, struct, walk

@@ -1,4 +1,4 @@
-"""The proof of a function over the table that has no branch and no loop, from its description."""
+"""The proof of a function over the table that has no branch and no loop, from its source."""
 
 from callees import handing, promises
 from descriptions import DEFINITIONS, LEMMAS, TYPES
@@ -16,7 +16,7 @@ STRUCT_LEMMAS = ["row", "mir", "val", "vals", "tells", "makes", "lawful"]
 
 HEAD = """
 -- `⟨path⟩` meets its contract: a walk of its MIR.
--- Written by scripts/walks/write from its description in scripts/walks/descriptions.py. Assumes nothing.
+-- Written by scripts/walks/write from the function's source. Assumes nothing.
 ⟨uses⟩
 
 ⟨text⟩

@@ -208,10 +208,10 @@ class Steps:
         self.filled.add(number)
         return f"{step} ! {self.place(number, more)} refl"
 
-    def value(self, argument: Argument) -> Value:
-        """What an argument is in the logic."""
+    def value(self, argument: Argument, of: str = "") -> Value:
+        """What an argument is in the logic; `of` is the type of the parameter that a literal stands for."""
         if argument.kind == "literal":
-            return Value(argument.name, "(refl, lit< tt)", TYPES["usize"])
+            return Value(argument.name, "(refl, lit< tt)", TYPES[of])
         if argument.kind == "length":
             return Value(f"(length {TABLE})", "(refl, room .0)", TYPES["usize"])
         whole = self.values[argument.name]
@@ -282,7 +282,8 @@ class Steps:
             self.add(TAKE_BACK)
             self.loan = OWN
         self.prepare(temporaries)
-        plain = [self.value(argument) for argument in call.arguments if argument.kind != "table"]
+        arguments = [argument for argument in call.arguments if argument.kind != "table"]
+        plain = [self.value(argument, of) for argument, of in zip(arguments, contract.signature.parameters.values())]
         site = Site(call, contract, temporaries, alias(contract, self.crate), plain)
         {"": self.compute, "&": self.look, "&mut": self.give}[contract.signature.access](site)
 

@@ -11,7 +11,7 @@ use borrow.Author.Tests.{eq-eqb, ne-eqb, le-leb}
 use Rattle.basics.specs.Choice.{choose, first}
 use Rattle.basics.proofs.Table.{when-none, when-refused}
 use Rattle.slave_plans.specs.Table.{none, indexOf}
-use Rattle.slave_plans.specs.Answer.{isAbsent, findLines, foundBy, entryOf, foundOf}
+use Rattle.slave_plans.specs.Answer.{isAbsent, findLines, foundBy, entryOf, foundOf, removeRefusal}
 use Rattle.slave_plans.specs.declared.Slave.{Slave}
 use Rattle.slave_plans.specs.declared.Found.{Found}
 use Rattle.slave_plans.proofs.Indices.{Lowest, Nowhere, index-is, index-none}
@@ -25,9 +25,10 @@ module _ (a : ℕ) (t : List Slave) where
   abbrev refusal : ℕ
   refusal = first (findLines (length t) (indexOf a t) a)
 
-  pub find-number : foundOf a t .number ≡ refusal
-  unfolding foundBy
-  find-number = refl
+  -- removing is refused just as finding is
+  pub remove-refused : removeRefusal a t ≡ foundOf a t .number
+  unfolding removeRefusal foundBy
+  remove-refused = refl
 
   -- 0 exactly if the table has 32 entries and one of them has the address, which isn't 0
   pub find-exactly : (foundOf a t .number ≡ 0) ↔ Findable a t

@@ -16,8 +16,8 @@ use Rattle.slave_plans.specs.declared.Slave.{Slave}
 use Rattle.slave_plans.specs.declared.Found.{Found}
 use Rattle.slave_plans.proofs.Addresses.{slave-nonzero}
 use Rattle.slave_plans.proofs.Indices.{addressAt, Lowest, index-lowest, index-is, nowhere-at, set-other}
-use Rattle.slave_plans.proofs.Refusals.{enter-exactly, change-exactly, remove-exactly}
-use Rattle.slave_plans.proofs.Finding.{identifiers, find-exactly, find-lowest, find-missing, find-same, find-zero}
+use Rattle.slave_plans.proofs.Refusals.{enter-exactly, enter-length, change-exactly, change-length, remove-exactly}
+use Rattle.slave_plans.proofs.Finding.{identifiers, find-exactly, find-lowest, find-length, find-missing, find-same, find-zero, remove-refused}
 
 -- an operation that can change the table
 pub data Operation : Type 0 where
@@ -57,6 +57,12 @@ named-inside : (o : Operation) (t : List Slave) → refusalOf o t ≡ 0 → inde
 named-inside (Enter s) t e = let (i, x) = enter-exactly s t .0 e .free in subst (λ (n : ℕ). n < length t) (sym (index-is 0 t i x)) (x .inside)
 named-inside (Change from to) t e = let (i, x) = change-exactly from to t .0 e .held in subst (λ (n : ℕ). n < length t) (sym (index-is from t i x)) (x .inside)
 named-inside (Remove a) t e = let (i, x) = remove-exactly a t .0 e .held in subst (λ (n : ℕ). n < length t) (sym (index-is a t i x)) (x .inside)
+
+-- "Any other length is refused first, as 24"
+pub length-first : (o : Operation) (t : List Slave) → length t ≢ 32 → refusalOf o t ≡ 24
+length-first (Enter s) t wrong = enter-length s t wrong
+length-first (Change from to) t wrong = change-length from to t wrong
+length-first (Remove a) t wrong = remove-refused a t ∙ find-length a t wrong
 
 module _ (o : Operation) (t : List Slave) where
   -- a refusal changes nothing
@@ -137,6 +143,16 @@ removed-gone a t e k up-to here =
     (λ same. remove-exactly a t .0 e .some (sym here ∙ ap (λ (n : ℕ). addressAt (removed a t) n) same ∙ ap (λ (s : Slave). s .address) (named-put (Remove a) t e)))
     (λ other. index-lowest a t (named-inside (Remove a) t e) .lower k (omega (arith, up-to, other)) (ap (λ (s : Slave). s .address) (sym (others-stay (Remove a) t k other)) ∙ here))
 
+-- where it stood twice, that one is found, with its identifiers
+pub removed-next : (a : ℕ) (t : List Slave) → removeRefusal a t ≡ 0 → (i : ℕ) → Lowest a (removed a t) i
+    → (indexOf a t < i) × (foundOf a (removed a t) ≡ identifiers (getD t i none))
+removed-next a t e i x =
+    let f = remove-exactly a t .0 e in
+    let held = find-exactly a (removed a t) .1 (record { size = length-stays (Remove a) t ∙ f .size; some = f .some; held = (i, x) }) in
+    let behind : i ≤ indexOf a t → ⊥ = λ up-to. removed-gone a t e i up-to (x .here) in
+    let past : indexOf a t < i = omega (arith, behind) in
+    (past, find-lowest a (removed a t) held i x ∙ ap identifiers (others-stay (Remove a) t i (λ same. omega (arith, past, same))))
+
 -- ── an address stands once
 
 -- no address stands twice in the table; 0 may, being that of the free entries
@@ -188,17 +204,29 @@ put-alone (Remove a) t once e k other some = absurd (some refl)
 pub once-kept : (o : Operation) (t : List Slave) → Once t → Once (tableAfter o t)
 once-kept o t once = either o t Once once (λ e. put-once t (indexNamed o t) (entryPut o t) (named-inside o t e) once (put-alone o t once e))
 
--- then a removed address is found no more
+-- an address that stands nowhere but at the index that an operation names is found no more, if the entry there has another one then
+gone : (o : Operation) (t : List Slave) (a : ℕ) → Once t → refusalOf o t ≡ 0 → length t ≡ 32 → a ≢ 0 → addressAt t (indexNamed o t) ≡ a → entryPut o t .address ≢ a
+    → foundOf a (tableAfter o t) .number ≡ 17
+gone o t a once e size some was new =
+    find-missing a (tableAfter o t) (length-stays o t ∙ size)
+    (λ k inside at.
+    dite (ℕ-discrete k (indexNamed o t))
+    (λ same. new (sym (ap (λ (s : Slave). s .address) (ap (λ (n : ℕ). getD (tableAfter o t) n none) same ∙ named-put o t e)) ∙ at))
+    (λ other.
+    let before : addressAt t k ≡ a = ap (λ (s : Slave). s .address) (sym (others-stay o t k other)) ∙ at in
+    other (once k (indexNamed o t) (λ z. some (sym before ∙ z)) (before ∙ sym was))))
+
+-- so an address that was changed is found no more
+pub changed-once : (from to : ℕ) (t : List Slave) → Once t → changeRefusal from to t ≡ 0 → to ≢ from → foundOf from (changed from to t) .number ≡ 17
+changed-once from to t once e other =
+    let m = change-exactly from to t .0 e in
+    gone (Change from to) t from once e (m .size) (m .some) (index-lowest from t (named-inside (Change from to) t e) .here) other
+
+-- nor one that was removed
 pub removed-once : (a : ℕ) (t : List Slave) → Once t → removeRefusal a t ≡ 0 → foundOf a (removed a t) .number ≡ 17
 removed-once a t once e =
     let f = remove-exactly a t .0 e in
-    let gone : (k : ℕ) → addressAt (removed a t) k ≢ a =
-    λ k at. dite (ℕ-discrete k (indexOf a t))
-    (λ same. removed-gone a t e k (omega (arith, same)) at)
-    (λ other.
-    let before : addressAt t k ≡ a = ap (λ (s : Slave). s .address) (sym (others-stay (Remove a) t k other)) ∙ at in
-    other (once k (indexOf a t) (λ z. f .some (sym before ∙ z)) (before ∙ sym (index-lowest a t (named-inside (Remove a) t e) .here)))) in
-    find-missing a (removed a t) (length-stays (Remove a) t ∙ f .size) (λ k inside. gone k)
+    gone (Remove a) t a once e (f .size) (f .some) (index-lowest a t (named-inside (Remove a) t e) .here) (λ z. f .some (sym z))
 
 -- ── what finding tells of every other address
 

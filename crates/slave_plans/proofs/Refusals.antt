@@ -4,11 +4,11 @@ use native.Mathlib.Omega.{arith}
 use mathlib.Core.Path.{_≡_, refl, sym, ap, subst, _∙_}
 use native.Mathlib.Decide.{ℕ-discrete}
 use mathlib.Core.Logic.{_≢_, _↔_, dite}
-use mathlib.Core.Bool.{Bool, false, not, _&&_}
+use mathlib.Core.Bool.{Bool, true, false, not, _&&_, not-eq-not}
 use mathlib.Core.List.{List}
 use lib.Dec.{eqb, leb, ltb}
 use lib.ListN.{length}
-use borrow.Author.Tests.{eq-eqb, ne-eqb, eqb-true, eqb-false, not-false, lt-leb, le-ltb, leb-false, ltb-false}
+use borrow.Author.Tests.{lt-ltb, le-leb, eq-eqb, ne-eqb, eqb-true, eqb-false, not-false, lt-leb, le-ltb, leb-false, ltb-false}
 use Rattle.basics.specs.Choice.{choose, first}
 use Rattle.basics.proofs.Choice.{neither}
 use Rattle.basics.proofs.Table.{line-passed}
@@ -16,7 +16,7 @@ use Rattle.slave_id.specs.SlaveId.{tooWide}
 use Rattle.slave_plans.specs.Table.{indexOf}
 use Rattle.slave_plans.specs.Answer.{notSlave, isAbsent, isTaken, findLines, enterRefusal, changeRefusal, removeRefusal}
 use Rattle.slave_plans.specs.declared.Slave.{Slave}
-use Rattle.slave_plans.proofs.Addresses.{SlaveAddress, slave-exactly}
+use Rattle.slave_plans.proofs.Addresses.{SlaveAddress, slave-exactly, no-slave}
 use Rattle.slave_plans.proofs.Indices.{Lowest, Nowhere, index-lowest, index-is, index-none, index-nowhere}
 
 -- the lowest of the entries that have an address
@@ -38,6 +38,12 @@ module _ (a : ℕ) (t : List Slave) where
 
   nowhere-past : (ltb (indexOf a t) (length t) ≡ false) ↔ Nowhere a t
   nowhere-past = (λ e. index-nowhere a t (ltb-false _ _ e), λ n. le-ltb (indexOf a t) (length t) (omega (arith, index-none a t n)))
+
+  held-inside : Held a t → ltb (indexOf a t) (length t) ≡ true
+  held-inside (i, x) = lt-ltb _ _ (subst (λ (n : ℕ). n < length t) (sym (index-is a t i x)) (x .inside))
+
+  nowhere-beyond : Nowhere a t → leb (length t) (indexOf a t) ≡ true
+  nowhere-beyond n = le-leb (length t) (indexOf a t) (omega (arith, index-none a t n))
 
   absent-exactly : (isAbsent (length t) (indexOf a t) a ≡ false) ↔ ((a ≢ 0) × Held a t)
   unfolding isAbsent
@@ -74,6 +80,19 @@ wide-exactly p d = (
 
 length-exactly : (n : ℕ) → (not (eqb n 32) ≡ false) ↔ (n ≡ 32)
 length-exactly n = (λ e. eqb-true _ _ (not-false _ e), λ e. rw (eq-eqb _ _ e))
+
+wrong-length : (t : List Slave) → length t ≢ 32 → eqb (length t) 32 ≡ false
+wrong-length t wrong = ne-eqb (length t) 32 wrong
+
+-- a test whose being false is what something else is, is true where that isn't
+true-if : {A : Type 0} (test : Bool) → ((test ≡ false) ↔ A) → (A → ⊥) → test ≡ true
+true-if test exactly never = not-eq-not .0 (λ e. never (exactly .0 e))
+
+is-wide : (p d : ℕ) → ((p < 2 ^ 24) × (d < 2 ^ 24) → ⊥) → tooWide p d ≡ true
+is-wide p d = true-if (tooWide p d) (wide-exactly p d)
+
+is-absent : (a : ℕ) (t : List Slave) → ((a ≢ 0) × Held a t → ⊥) → isAbsent (length t) (indexOf a t) a ≡ true
+is-absent a t = true-if (isAbsent (length t) (indexOf a t) a) (absent-exactly a t)
 
 -- ── finding and removing
 
@@ -130,6 +149,39 @@ enter-exactly s t = (
   ),
 )
 
+-- and which refusal comes where it isn't
+module _ (s : Slave) (t : List Slave) where
+  pub enter-length : length t ≢ 32 → enterRefusal s t ≡ 24
+  unfolding enterRefusal choose
+  enter-length wrong = rw (wrong-length t wrong)
+
+  module _ (size : length t ≡ 32) where
+    pub enter-address : (SlaveAddress (s .address) → ⊥) → enterRefusal s t ≡ 14
+    unfolding enterRefusal choose
+    enter-address never = rw (length-exactly (length t) .1 size, ← no-slave (s .address) never)
+
+    module _ (address : SlaveAddress (s .address)) where
+      pub enter-wide : ((s .product < 2 ^ 24) × (s .device < 2 ^ 24) → ⊥) → enterRefusal s t ≡ 18
+      unfolding enterRefusal choose
+      enter-wide wide = rw (length-exactly (length t) .1 size, slave-exactly (s .address) .1 address, is-wide (s .product) (s .device) wide)
+
+      module _ (product : s .product < 2 ^ 24) (device : s .device < 2 ^ 24) where
+        pub enter-taken : Held (s .address) t → enterRefusal s t ≡ 15
+        unfolding enterRefusal choose
+        enter-taken held =
+            rw (length-exactly (length t) .1 size, slave-exactly (s .address) .1 address, wide-exactly (s .product) (s .device) .1 (product, device), held-inside (s .address) t held)
+
+        pub enter-full : Nowhere (s .address) t → Nowhere 0 t → enterRefusal s t ≡ 16
+        unfolding enterRefusal choose
+        enter-full fresh full =
+            rw (
+              length-exactly (length t) .1 size,
+              slave-exactly (s .address) .1 address,
+              wide-exactly (s .product) (s .device) .1 (product, device),
+              nowhere-past (s .address) t .1 fresh,
+              nowhere-beyond 0 t full,
+            )
+
 -- ── changing an address
 
 pub record MayChange (from to : ℕ) (t : List Slave) : Type 0 where
@@ -161,3 +213,24 @@ change-exactly from to t = (
     taken-exactly from to t .1 (m .fresh),
   ),
 )
+
+-- and which refusal comes where it isn't
+module _ (from to : ℕ) (t : List Slave) where
+  pub change-length : length t ≢ 32 → changeRefusal from to t ≡ 24
+  unfolding changeRefusal choose
+  change-length wrong = rw (wrong-length t wrong)
+
+  module _ (size : length t ≡ 32) where
+    pub change-new : (SlaveAddress to → ⊥) → changeRefusal from to t ≡ 14
+    unfolding changeRefusal choose
+    change-new never = rw (length-exactly (length t) .1 size, ← no-slave to never)
+
+    module _ (new : SlaveAddress to) where
+      pub change-old : ((from ≢ 0) × Held from t → ⊥) → changeRefusal from to t ≡ 17
+      unfolding changeRefusal choose
+      change-old absent = rw (length-exactly (length t) .1 size, slave-exactly to .1 new, is-absent from t absent)
+
+      pub change-taken : from ≢ 0 → Held from t → to ≢ from → Held to t → changeRefusal from to t ≡ 15
+      unfolding changeRefusal choose
+      change-taken some old other held =
+          rw (length-exactly (length t) .1 size, slave-exactly to .1 new, absent-exactly from t .1 (some, old), other-taken (length t) (indexOf to t) from to other, held-inside to t held)

@@ -3,7 +3,7 @@
 ghost use mathlib.Core.Path.{_≡_};
 ghost use lib.Dec.{eqb};
 ghost use Rattle.basics.specs.Choice.{first};
-ghost use Rattle.slave_plans.specs.Answer.{notSlave, isAbsent, isTaken, enterLines, findLines, foundBy, changeLines};
+ghost use Rattle.slave_plans.specs.Answer.{notSlave, isAbsent, isTaken, enterLines, findLines, foundBy, changeLines, readdressed};
 ghost use Rattle.slave_plans.specs.Table;
 ghost use Rattle.slave_plans.specs.Plan.{searchStart, planBy, enterPlan, changePlan, removePlan};
 
@@ -188,15 +188,22 @@ pub fn find(size: usize, at: usize, entry: Slave, address: u16) -> Found
     }
 }
 
+// An entry with another address.
+fn with_address(old: Slave, address: u16) -> Slave
+    ensures { λ r. ⌜ r ≡ readdressed address old ⌝ }
+{
+    Slave {
+        address,
+        product: old.product,
+        device: old.device,
+    }
+}
+
 // The entry where the old address stands, with the new one.
 pub fn change(size: usize, at: usize, entry: Slave, other: usize, from: u16, to: u16) -> Plan
     ensures { λ r. ⌜ r ≡ changePlan size at entry other from to ⌝ }
 {
-    let changed = Slave {
-        address: to,
-        product: entry.product,
-        device: entry.device,
-    };
+    let changed = with_address(entry, to);
     planned(change_refusal(size, at, other, from, to), size, at, changed)
 }
 
