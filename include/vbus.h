@@ -171,7 +171,7 @@ typedef struct {
 
 typedef struct {
     uint32_t number;
-    uint32_t product, device;
+    uint32_t product, device; /* those of the entry */
 } vbus_slave_found;
 
 /* The checksum of n bytes: 0x7F less each byte, the low seven bits kept. Of no bytes it is 0x7F. */
@@ -319,10 +319,10 @@ vbus_written vbus_write_slave_id(uint16_t destination, uint16_t source, uint32_t
 
 /*
  * A table of slaves is an array of VBUS_SLAVES entries of the caller's; all zero bytes are an empty one. Any n but
- * VBUS_SLAVES is refused, and no entry is looked at then. Each call changes at most the one entry that it names, and
- * after a refusal every entry is what it was. Calls never make an address stand in two entries; in a table brought in
- * that has one twice, the entry with the lower index counts. Compare entries field by field: the bytes between the
- * fields may hold anything.
+ * VBUS_SLAVES is refused, and then nothing of the table is read or written, whatever n says. Each call changes at most
+ * the one entry that it names, and after a refusal every entry is what it was. Calls never make an address stand in two
+ * entries; in a table brought in that has one twice, the entry with the lower index counts. Compare entries field by
+ * field: the bytes between the fields may hold anything.
  * The refusals, of which each function names its own; `number`, or the number that is answered, is 0 where there is none:
  *   VBUS_WRONG_TABLE_LENGTH (24): n isn't VBUS_SLAVES
  *   VBUS_NOT_SLAVE_ADDRESS (14): bits 14 to 12 of the (new) address aren't 2, bit 7 or 15 is set, or bits 11 to 4 are all

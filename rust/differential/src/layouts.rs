@@ -548,6 +548,7 @@ impl Checker {
         }
         Ok(())
     }
+
     fn slave_offsets(&mut self) -> Checked<()> {
         let offsets = [
             offset_of!(vbus_sys::SlaveId, number),

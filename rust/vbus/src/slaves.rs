@@ -180,12 +180,24 @@ impl SlaveTable {
     /// }
     /// table.remove(0x2020)?;
     /// assert!(table.slaves().map(|slave| slave.address).eq([0x2010, 0x2030]));
+    /// for slave in &table {
+    ///     println!("{:04X} {} {}", slave.address, slave.product, slave.device);
+    /// }
     /// # Ok::<(), vbus::Error>(())
     /// ```
     pub fn slaves(&self) -> Slaves<'_> {
         Slaves {
             entries: self.entries.iter(),
         }
+    }
+}
+
+impl<'a> IntoIterator for &'a SlaveTable {
+    type Item = Slave;
+    type IntoIter = Slaves<'a>;
+
+    fn into_iter(self) -> Slaves<'a> {
+        self.slaves()
     }
 }
 
