@@ -374,6 +374,7 @@ slaveTables =
     (enterSlave (slave 0x2010 0xFFFFFF 0xFFFFFF) (slaves []), 0 ∷ tableTold (slaves ((0, slave 0x2010 0xFFFFFF 0xFFFFFF) ∷ [])))
     ∷ (enterSlave (slave 0x2F7F 1 2) (slaves ((0, slave 0x2010 3 4) ∷ (2, slave 0x2011 5 6) ∷ [])), 0 ∷ tableTold (slaves ((0, slave 0x2010 3 4) ∷ (1, slave 0x2F7F 1 2) ∷ (2, slave 0x2011 5 6) ∷ [])))
     ∷ (enterSlave (slave 0x2100 1 2) (set full 31 (slave 0 7 8)), 0 ∷ tableTold (set full 31 (slave 0x2100 1 2)))
+    ∷ (enterSlave (slave 0x2800 1 2) (slaves []), 0 ∷ tableTold (slaves ((0, slave 0x2800 1 2) ∷ [])))
     ∷ (enterSlave (slave 0x200F 0x1000000 2) short, unchanged 24 short)
     ∷ (enterSlave (slave 0x200F 1 2) long, unchanged 24 long)
     ∷ (enterSlave (slave 0x2010 1 2) long, unchanged 24 long)

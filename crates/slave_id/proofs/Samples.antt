@@ -1,4 +1,4 @@
--- T2 both ways: product 888888, production week 17, consecutive number 116406.
+-- T2 both ways: product 888888, production week 17, consecutive number 116406. Crate samples has it too; an edit here sees this crate alone.
 use Prim.Native.Nat.{ℕ, _+_, _*_}
 use mathlib.Core.Path.{_≡_, refl}
 use mathlib.Core.List.{List, [], _∷_, _++_}
