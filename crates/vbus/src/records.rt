@@ -12,7 +12,12 @@ pub extern "C" fn vbus_encode(header: Header, payload: &[u8], out: &mut [u8]) ->
     ensures { λ r. ⌜ r ≡ encodingOf (record { header = header; payload = now (payload .entry) }) (length (now (out .entry))) ⌝ }
     ensures { λ r. ⌜ now (out .exit) ≡ outputAfter (record { header = header; payload = now (payload .entry) }) (now (out .entry)) ⌝ }
 {
-    record::encode(header, payload, out)
+    // Field by field: a copy of the struct would load the number with the bytes behind it, which weren't stored with it, and wait.
+    let written = record::encode(header, payload, out);
+    Written {
+        number: written.number,
+        length: written.length,
+    }
 }
 
 // A datagram's value, the last four bytes of its payload, as a signed number.
