@@ -2,6 +2,7 @@
 use Prim.Native.Nat.{ℕ, _+_, _*_, _/_, _%_, _≤_, _<_, _^_}
 use native.Mathlib.Omega.{arith}
 use mathlib.Core.Path.{_≡_, refl, sym, ap, ap₂, _∙_}
+use mathlib.Core.Logic.{_↔_}
 use mathlib.Core.Bool.{true, false}
 use mathlib.Core.List.{List}
 use lib.Dec.{leb, lit<}
@@ -21,6 +22,14 @@ use Rattle.recording.proofs.Nexts.{encode-next}
 use Rattle.slave_id.specs.SlaveId.{tooWide, response, identified, slaveIdOf, isResponse, writeRefusal, writtenOf, outputAfter}
 
 -- ── 18
+
+-- both identifiers have 24 bits at most
+pub wide-exactly : (p d : ℕ) → (tooWide p d ≡ false) ↔ ((p < 2 ^ 24) × (d < 2 ^ 24))
+unfolding tooWide
+wide-exactly p d = (
+  λ e. let both = neither (leb (2 ^ 24) p) (leb (2 ^ 24) d) e in (leb-false (2 ^ 24) p (both .0), leb-false (2 ^ 24) d (both .1)),
+  λ (small, other). rw (lt-leb (2 ^ 24) p small, lt-leb (2 ^ 24) d other),
+)
 
 pub wide-product : (p d : ℕ) → 2 ^ 24 ≤ p → true ≡ tooWide p d
 unfolding tooWide
@@ -54,10 +63,10 @@ identifier-back : (x : ℕ) → x < 2 ^ 24 → x % 256 + 256 * (x / 256 % 256) +
 identifier-back x l = omega (arith, l)
 
 pub response-reads : (dst src p d : ℕ) → tooWide p d ≡ false → slaveIdOf (response dst src p d) ≡ identified p d
-unfolding slaveIdOf isResponse tooWide kindOf choose
+unfolding slaveIdOf isResponse kindOf choose
 response-reads dst src p d narrow =
-    let (small, other) = neither (leb (2 ^ 24) p) (leb (2 ^ 24) d) narrow in
-    ap₂ identified (identifier-back p (leb-false (2 ^ 24) p small)) (identifier-back d (leb-false (2 ^ 24) d other))
+    let (product, device) = wide-exactly p d .0 narrow in
+    ap₂ identified (identifier-back p product) (identifier-back d device)
 
 response-range : (dst src p d : ℕ) → dst < 2 ^ 16 → src < 2 ^ 16 → InRange (response dst src p d)
 response-range dst src p d destination source =

@@ -13,6 +13,7 @@ use Rattle.basics.specs.Choice.{choose, first}
 use Rattle.basics.proofs.Choice.{neither}
 use Rattle.basics.proofs.Table.{line-passed}
 use Rattle.slave_id.specs.SlaveId.{tooWide}
+use Rattle.slave_id.proofs.Writing.{wide-exactly}
 use Rattle.slave_plans.specs.Table.{indexOf}
 use Rattle.slave_plans.specs.Answer.{notSlave, isAbsent, isTaken, findLines, enterRefusal, changeRefusal, removeRefusal}
 use Rattle.slave_plans.specs.declared.Slave.{Slave}
@@ -68,14 +69,6 @@ taken-exactly from to t = (
       dite (ℕ-discrete to from)
       (λ same. subst (λ (a : ℕ). isTaken (length t) (indexOf to t) a to ≡ false) same (same-free _ _ to))
       (λ new. other-taken _ _ from to new ∙ nowhere-past to t .1 (fresh new)),
-)
-
--- 18: both identifiers have 24 bits at most
-wide-exactly : (p d : ℕ) → (tooWide p d ≡ false) ↔ ((p < 2 ^ 24) × (d < 2 ^ 24))
-unfolding tooWide
-wide-exactly p d = (
-  λ e. let both = neither (leb (2 ^ 24) p) (leb (2 ^ 24) d) e in (leb-false _ _ (both .0), leb-false _ _ (both .1)),
-  λ (small, other). rw (lt-leb _ _ small, lt-leb _ _ other),
 )
 
 length-exactly : (n : ℕ) → (not (eqb n 32) ≡ false) ↔ (n ≡ 32)
