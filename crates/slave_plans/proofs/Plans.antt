@@ -1,8 +1,8 @@
 -- Each answer of the functions, by the tests that led to it.
 use Prim.Native.Nat.{ℕ, _≤_, _<_}
-use mathlib.Core.Path.{_≡_}
+use mathlib.Core.Path.{_≡_, sym, ap}
 use mathlib.Core.Logic.{_≢_}
-use mathlib.Core.Bool.{true, false}
+use mathlib.Core.Bool.{Bool, true, false, not, _&&_}
 use lib.Dec.{leb, ltb}
 use borrow.Author.Tests.{eq-eqb, ne-eqb, le-leb, lt-leb, lt-ltb, le-ltb}
 use Rattle.basics.specs.Choice.{choose, first}
@@ -34,13 +34,14 @@ module _ (size at address : ℕ) where
   absent-nowhere n = rw (ne-eqb address 0 n)
 
 module _ (size other from to : ℕ) where
+  -- a change to the address that the slave has is never refused as 15
   pub taken-same : to ≡ from → false ≡ isTaken size other from to
   unfolding isTaken
-  taken-same e = rw (eq-eqb to from e)
+  taken-same e = ap (λ (same : Bool). not same && ltb other size) (sym (eq-eqb to from e))
 
   pub taken-other : to ≢ from → ltb other size ≡ isTaken size other from to
   unfolding isTaken
-  taken-other n = rw (ne-eqb to from n)
+  taken-other n = ap (λ (same : Bool). not same && ltb other size) (sym (ne-eqb to from n))
 
 -- ── the first line that applies
 
