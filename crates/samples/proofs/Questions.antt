@@ -34,6 +34,7 @@ use Rattle.slave_id.specs.SlaveId.{slaveIdOf, writtenOf}
 use Rattle.slave_id.specs.SlaveId as SlaveIds
 use Rattle.slave_id.specs.declared.SlaveId.{SlaveId}
 use Rattle.slave_plans.specs.Answer.{enterRefusal, entered, foundOf, changeRefusal, changed, removeRefusal, removed}
+use Rattle.slave_plans.specs.History.{Operation, answersOf}
 use Rattle.slave_plans.specs.declared.Slave.{Slave}
 use Rattle.slave_plans.specs.declared.Found as SlaveFound
 
@@ -60,9 +61,10 @@ pub data Question : Type 0 where
   readSlaveId : Record → Question
   writeSlaveId : ℕ → ℕ → ℕ → ℕ → ℕ → Question
   enterSlave : Slave → List Slave → Question
-  findSlave : ℕ → List Slave → Question
-  changeSlave : ℕ → ℕ → List Slave → Question
-  removeSlave : ℕ → List Slave → Question
+  findSlave : Bool → ℕ → List Slave → Question
+  changeSlave : Bool → ℕ → ℕ → List Slave → Question
+  removeSlave : Bool → ℕ → List Slave → Question
+  answered : Bool → List Operation → Question
   verdict : Verdict → Question
 
 -- an output before a call
@@ -119,7 +121,12 @@ slaveFoundTold f = f .number ∷ f .product ∷ f .device ∷ []
 -- every entry of a table
 abbrev pub tableTold : List Slave → List ℕ
 tableTold [] = []
-tableTold (e ∷ rest) = e .address ∷ e .product ∷ e .device ∷ tableTold rest
+tableTold (e ∷ rest) = e .address ∷ boolTold (e .owner) ∷ e .product ∷ e .device ∷ tableTold rest
+
+-- an owner's answers in a history
+abbrev answersTold : List (Operation × SlaveFound.Found) → List ℕ
+answersTold [] = []
+answersTold ((operation, found) ∷ rest) = slaveFoundTold found ++ answersTold rest
 
 abbrev pub answer : Question → List ℕ
 answer (checksum block) = checksumOf block ∷ []
@@ -144,7 +151,8 @@ answer (readSlaveId r) = slaveIdTold (slaveIdOf r)
 answer (writeSlaveId destination source product device room) =
     writtenTold (writtenOf destination source product device room) ++ SlaveIds.outputAfter destination source product device (untouched room)
 answer (enterSlave s t) = enterRefusal s t ∷ tableTold (entered s t)
-answer (findSlave a t) = slaveFoundTold (foundOf a t)
-answer (changeSlave from to t) = changeRefusal from to t ∷ tableTold (changed from to t)
-answer (removeSlave a t) = removeRefusal a t ∷ tableTold (removed a t)
+answer (findSlave o a t) = slaveFoundTold (foundOf o a t)
+answer (changeSlave o from to t) = changeRefusal o from to t ∷ tableTold (changed o from to t)
+answer (removeSlave o a t) = removeRefusal o a t ∷ tableTold (removed o a t)
+answer (answered o history) = answersTold (answersOf o history)
 answer (verdict v) = number v ∷ []

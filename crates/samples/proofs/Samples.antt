@@ -1,5 +1,6 @@
 -- The streams and records that the table asks of.
-use Prim.Native.Nat.{ℕ, zero, suc, _*_, _/_, _%_}
+use Prim.Native.Nat.{ℕ, zero, suc, _+_, _-_, _*_, _/_, _%_}
+use mathlib.Core.Bool.{Bool, true, false}
 use mathlib.Core.List.{List, [], _∷_, _++_}
 use lib.ListN.{take, replicate, set}
 use Rattle.record.specs.Record.{Record}
@@ -95,9 +96,16 @@ eachType =
 abbrev pub display : ℕ → List ℕ
 display frames = frames ∷ 0x0A ∷ 0x00 ∷ 0x00 ∷ replicate (4 * frames) 0xD1
 
+-- the two owners
+abbrev pub no : Bool
+no = false
+
+abbrev pub yes : Bool
+yes = true
+
 -- a slave, and a table with entries at some indices
-abbrev pub slave : ℕ → ℕ → ℕ → Slave
-slave address product device = record { address = address; product = product; device = device }
+abbrev pub slave : Bool → ℕ → ℕ → ℕ → Slave
+slave owner address product device = record { address = address; owner = owner; product = product; device = device }
 
 abbrev pub slaves : List (ℕ × Slave) → List Slave
 slaves [] = replicate 32 none
@@ -105,4 +113,17 @@ slaves ((index, entry) ∷ rest) = set (slaves rest) index entry
 
 -- a table with one address twice, and one that no slave can have
 abbrev pub twice : List Slave
-twice = slaves ((3, slave 0x2010 30 31) ∷ (5, slave 0x2011 50 51) ∷ (9, slave 0x2010 90 91) ∷ (31, slave 0x0001 310 311) ∷ [])
+twice = slaves ((3, slave no 0x2010 30 31) ∷ (5, slave no 0x2011 50 51) ∷ (9, slave no 0x2010 90 91) ∷ (31, slave no 0x0001 310 311) ∷ [])
+
+-- a table of both owners, with one address under both
+abbrev pub shared : List Slave
+shared = slaves ((3, slave yes 0x2010 30 31) ∷ (5, slave no 0x2010 50 51) ∷ (7, slave no 0x2011 70 71) ∷ (9, slave yes 0x2012 90 91) ∷ [])
+
+-- so many slaves of an owner, with addresses from one on
+abbrev pub slavesFrom : Bool → ℕ → ℕ → List Slave
+slavesFrom owner address zero = []
+slavesFrom owner address (suc n) = slave owner address 1 2 ∷ slavesFrom owner (suc address) n
+
+-- a table with so many of each
+abbrev pub holding : ℕ → ℕ → List Slave
+holding n m = slavesFrom no 0x2100 n ++ (slavesFrom yes 0x2100 m ++ replicate (32 - (n + m)) none)

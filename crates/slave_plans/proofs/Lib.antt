@@ -1,6 +1,10 @@
 pub mod Addresses
+pub mod Entries
 pub mod Indices
+pub mod Counts
 pub mod Refusals
 pub mod Finding
 pub mod Operations
+pub mod Histories
+pub mod Isolation
 pub mod Plans

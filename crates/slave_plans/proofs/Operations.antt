@@ -1,257 +1,348 @@
--- What the operations leave and what they change: request No. 7's sentences about entries, and what finding tells afterwards.
+-- What the operations leave and what they change: the requests' sentences about entries, and what finding tells afterwards.
 use Prim.Native.Nat.{ℕ, zero, suc, _≤_, _<_}
 use native.Mathlib.Omega.{arith}
-use native.Mathlib.Decide.{ℕ-discrete}
+use native.Mathlib.Decide.{ℕ-discrete, decLt}
 use mathlib.Core.Path.{_≡_, refl, sym, ap, subst, _∙_}
 use mathlib.Core.Logic.{_≢_, _⊎_, inl, inr, dite}
+use mathlib.Core.Bool.{Bool, true, false, true≢false}
 use mathlib.Core.List.{List, [], _∷_}
 use lib.Dec.{eqb}
-use lib.ListN.{length, getD, set, replicate, length-set}
+use lib.ListN.{length, getD, set, replicate, length-set, List·getD-eq-default}
 use lib.Seq.{getD-set-same, getD-set-other}
 use Rattle.basics.specs.Choice.{choose}
 use Rattle.basics.proofs.Table.{when-none, when-refused}
-use Rattle.slave_plans.specs.Table.{none, indexOf}
+use Rattle.slave_plans.specs.Table.{none, empty, isFree, hasAddress, lowest, indexOf}
 use Rattle.slave_plans.specs.Answer.{foundOf, tableWith, entryOf, readdressed, enterRefusal, entered, changeRefusal, changed, removeRefusal, removed}
+use Rattle.slave_plans.specs.History.{Operation, Enter, Find, Change, Remove, ownerOf, numberAlone, answerOf, tableAfter}
 use Rattle.slave_plans.specs.declared.Slave.{Slave}
 use Rattle.slave_plans.specs.declared.Found.{Found}
 use Rattle.slave_plans.proofs.Addresses.{slave-nonzero}
-use Rattle.slave_plans.proofs.Indices.{addressAt, Lowest, index-lowest, index-is, nowhere-at, set-other}
-use Rattle.slave_plans.proofs.Refusals.{enter-exactly, enter-length, change-exactly, change-length, remove-exactly}
+use Rattle.slave_plans.proofs.Entries.{by-test, false-if, free-exactly, address-exactly, other-address, other-owner}
+use Rattle.slave_plans.proofs.Indices.{Lowest, Nowhere, lowest-here, lowest-is, set-other}
+use Rattle.slave_plans.proofs.Refusals.{held-inside, enter-exactly, enter-length, change-exactly, change-length, remove-exactly}
 use Rattle.slave_plans.proofs.Finding.{identifiers, find-exactly, find-lowest, find-length, find-missing, find-same, find-zero, remove-refused}
 
--- an operation that can change the table
-pub data Operation : Type 0 where
-  Enter : Slave → Operation
-  Change : ℕ → ℕ → Operation
-  Remove : ℕ → Operation
-
--- what it answers, the table afterwards, and the index of the entry that it names
+-- the refusal's number or 0
 abbrev pub refusalOf : Operation → List Slave → ℕ
-refusalOf (Enter s) t = enterRefusal s t
-refusalOf (Change from to) t = changeRefusal from to t
-refusalOf (Remove a) t = removeRefusal a t
+refusalOf op t = answerOf op t .number
 
-abbrev pub tableAfter : Operation → List Slave → List Slave
-tableAfter (Enter s) t = entered s t
-tableAfter (Change from to) t = changed from to t
-tableAfter (Remove a) t = removed a t
-
+-- the index of the entry that an operation names
 abbrev pub indexNamed : Operation → List Slave → ℕ
-indexNamed (Enter s) t = indexOf 0 t
-indexNamed (Change from to) t = indexOf from t
-indexNamed (Remove a) t = indexOf a t
+indexNamed (Enter s) t = lowest isFree t
+indexNamed (Find o a) t = indexOf o a t
+indexNamed (Change o from to) t = indexOf o from t
+indexNamed (Remove o a) t = indexOf o a t
 
--- the entry that it puts there
-abbrev entryPut : Operation → List Slave → Slave
+-- the entry that stands there afterwards
+abbrev pub entryPut : Operation → List Slave → Slave
 entryPut (Enter s) t = s
-entryPut (Change from to) t = readdressed to (entryOf from t)
-entryPut (Remove a) t = none
+entryPut (Find o a) t = entryOf o a t
+entryPut (Change o from to) t = readdressed to (entryOf o from t)
+entryPut (Remove o a) t = none
 
-table-is : (o : Operation) (t : List Slave) → tableAfter o t ≡ tableWith (refusalOf o t) (indexNamed o t) (entryPut o t) t
+set-same : (t : List Slave) (i : ℕ) → set t i (getD t i none) ≡ t
+set-same [] i = refl
+set-same (x ∷ t) zero = refl
+set-same (x ∷ t) (suc i) = ap (λ (r : List Slave). x ∷ r) (set-same t i)
+
+table-is : (op : Operation) (t : List Slave) → tableAfter op t ≡ tableWith (refusalOf op t) (indexNamed op t) (entryPut op t) t
+unfolding choose
 table-is (Enter s) t = refl
-table-is (Change from to) t = refl
-table-is (Remove a) t = refl
+table-is (Find o a) t = sym (unchanged (eqb (foundOf o a t .number) 0))
+  where
+    unchanged : (accepted : Bool) → choose accepted (set t (indexOf o a t) (entryOf o a t)) t ≡ t
+    unchanged true = set-same t (indexOf o a t)
+    unchanged false = refl
+table-is (Change o from to) t = refl
+table-is (Remove o a) t = refl
 
 -- the entry is in the table
-named-inside : (o : Operation) (t : List Slave) → refusalOf o t ≡ 0 → indexNamed o t < length t
-named-inside (Enter s) t e = let (i, x) = enter-exactly s t .0 e .free in subst (λ (n : ℕ). n < length t) (sym (index-is 0 t i x)) (x .inside)
-named-inside (Change from to) t e = let (i, x) = change-exactly from to t .0 e .held in subst (λ (n : ℕ). n < length t) (sym (index-is from t i x)) (x .inside)
-named-inside (Remove a) t e = let (i, x) = remove-exactly a t .0 e .held in subst (λ (n : ℕ). n < length t) (sym (index-is a t i x)) (x .inside)
+pub named-inside : (op : Operation) (t : List Slave) → refusalOf op t ≡ 0 → indexNamed op t < length t
+named-inside (Enter s) t e = held-inside isFree t (enter-exactly s t .0 e .free)
+named-inside (Find o a) t e = held-inside (hasAddress o a) t (find-exactly o a t .0 e .held)
+named-inside (Change o from to) t e = held-inside (hasAddress o from) t (change-exactly o from to t .0 e .held)
+named-inside (Remove o a) t e = held-inside (hasAddress o a) t (remove-exactly o a t .0 e .held)
 
 -- "Any other length is refused first, as 24"
-pub length-first : (o : Operation) (t : List Slave) → length t ≢ 32 → refusalOf o t ≡ 24
+pub length-first : (op : Operation) (t : List Slave) → length t ≢ 32 → refusalOf op t ≡ 24
 length-first (Enter s) t wrong = enter-length s t wrong
-length-first (Change from to) t wrong = change-length from to t wrong
-length-first (Remove a) t wrong = remove-refused a t ∙ find-length a t wrong
+length-first (Find o a) t wrong = find-length o a t wrong
+length-first (Change o from to) t wrong = change-length o from to t wrong
+length-first (Remove o a) t wrong = remove-refused o a t ∙ find-length o a t wrong
 
-module _ (o : Operation) (t : List Slave) where
+module _ (op : Operation) (t : List Slave) where
+  abbrev j : ℕ
+  j = indexNamed op t
+
+  abbrev e : Slave
+  e = entryPut op t
+
   -- a refusal changes nothing
-  pub refused-stay : refusalOf o t ≢ 0 → tableAfter o t ≡ t
-  refused-stay r = table-is o t ∙ when-refused (refusalOf o t) _ _ r
+  pub refused-stay : refusalOf op t ≢ 0 → tableAfter op t ≡ t
+  refused-stay r = table-is op t ∙ when-refused (refusalOf op t) _ _ r
 
-  given : refusalOf o t ≡ 0 → tableAfter o t ≡ set t (indexNamed o t) (entryPut o t)
-  given e = table-is o t ∙ when-none (refusalOf o t) _ _ e
+  given : refusalOf op t ≡ 0 → tableAfter op t ≡ set t j e
+  given accepted = table-is op t ∙ when-none (refusalOf op t) _ _ accepted
 
   -- whatever is answered: P of the table as it was and of the table with the entry put
-  either : (P : List Slave → Type 0) → P t → (refusalOf o t ≡ 0 → P (set t (indexNamed o t) (entryPut o t))) → P (tableAfter o t)
+  pub either : (P : List Slave → Type 0) → P t → (refusalOf op t ≡ 0 → P (set t j e)) → P (tableAfter op t)
   either P before after =
-      dite (ℕ-discrete (refusalOf o t) 0) (λ e. subst P (sym (given e)) (after e)) (λ r. subst P (sym (refused-stay r)) before)
+      dite (ℕ-discrete (refusalOf op t) 0) (λ accepted. subst P (sym (given accepted)) (after accepted)) (λ r. subst P (sym (refused-stay r)) before)
 
-  pub length-stays : length (tableAfter o t) ≡ length t
-  length-stays = either (λ (l : List Slave). length l ≡ length t) refl (λ e. length-set t (indexNamed o t) (entryPut o t))
+  pub length-stays : length (tableAfter op t) ≡ length t
+  length-stays = either (λ (l : List Slave). length l ≡ length t) refl (λ accepted. length-set t j e)
 
   -- "Each call leaves all entries alike but the one it names"
-  pub others-stay : (k : ℕ) → k ≢ indexNamed o t → getD (tableAfter o t) k none ≡ getD t k none
-  others-stay k other = either (λ (l : List Slave). getD l k none ≡ getD t k none) refl (λ e. getD-set-other t (indexNamed o t) k (entryPut o t) none other)
+  pub others-stay : (k : ℕ) → k ≢ j → getD (tableAfter op t) k none ≡ getD t k none
+  others-stay k other = either (λ (l : List Slave). getD l k none ≡ getD t k none) refl (λ accepted. getD-set-other t j k e none other)
 
-  -- and that one is then the slave that was entered, the entry with its new address, or zeros
-  pub named-put : refusalOf o t ≡ 0 → getD (tableAfter o t) (indexNamed o t) none ≡ entryPut o t
-  named-put e = ap (λ (l : List Slave). getD l (indexNamed o t) none) (given e) ∙ getD-set-same t (indexNamed o t) (entryPut o t) none (named-inside o t e)
+  -- and that one is then the slave that was entered, the entry that was found, the entry with its new address, or zeros
+  pub named-put : refusalOf op t ≡ 0 → getD (tableAfter op t) j none ≡ e
+  named-put accepted = ap (λ (l : List Slave). getD l j none) (given accepted) ∙ getD-set-same t j e none (named-inside op t accepted)
+
+-- what is known of the entry that was named: it was free, or an owner's with an address
+pub free-named : (s : Slave) (t : List Slave) → enterRefusal s t ≡ 0 → getD t (lowest isFree t) none .address ≡ 0
+free-named s t accepted = free-exactly _ .0 (lowest-here isFree t (named-inside (Enter s) t accepted) .here)
+
+module _ (o : Bool) (a : ℕ) (t : List Slave) where
+  abbrev pub Owns : Type 0
+  Owns = (entryOf o a t .owner ≡ o) × (entryOf o a t .address ≡ a)
+
+  owns : indexOf o a t < length t → Owns
+  owns inside = address-exactly (entryOf o a t) o a .0 (lowest-here (hasAddress o a) t inside .here)
+
+  found-named : foundOf o a t .number ≡ 0 → Owns
+  found-named accepted = owns (named-inside (Find o a) t accepted)
+
+  pub removed-named : removeRefusal o a t ≡ 0 → Owns
+  removed-named accepted = owns (named-inside (Remove o a) t accepted)
+
+pub changed-named : (o : Bool) (from to : ℕ) (t : List Slave) → changeRefusal o from to t ≡ 0 → Owns o from t
+changed-named o from to t accepted = owns o from t (named-inside (Change o from to) t accepted)
 
 -- ── what is found afterwards
 
--- an entry that is put where no lower one has its address is found
-put-found : (t : List Slave) (i : ℕ) (e : Slave) → length t ≡ 32 → i < length t → e .address ≢ 0 → ((k : ℕ) → k < i → addressAt t k ≢ e .address)
-    → foundOf (e .address) (set t i e) ≡ identifiers e
+-- an entry that is put where no lower one is its owner's with its address is found
+put-found : (t : List Slave) (i : ℕ) (e : Slave) → length t ≡ 32 → i < length t → e .address ≢ 0
+    → ((k : ℕ) → k < i → hasAddress (e .owner) (e .address) (getD t k none) ≡ false) → foundOf (e .owner) (e .address) (set t i e) ≡ identifiers e
 put-found t i e size inside some lower =
+    let test = hasAddress (e .owner) (e .address) in
     let here = getD-set-same t i e none inside in
-    let lowest : Lowest (e .address) (set t i e) i =
+    let lowest-put : Lowest test (set t i e) i =
     record {
       inside = omega (arith, inside, length-set t i e);
-      here = ap (λ (s : Slave). s .address) here;
-      lower = λ k below. subst (λ (s : Slave). s .address ≢ e .address) (sym (getD-set-other t i k e none (omega (arith, below)))) (lower k below);
+      here = ap test here ∙ address-exactly e (e .owner) (e .address) .1 (refl, refl);
+      lower = λ k below. ap test (getD-set-other t i k e none (omega (arith, below))) ∙ lower k below;
     } in
-    find-lowest (e .address) (set t i e) (find-exactly (e .address) (set t i e) .1 (record { size = length-set t i e ∙ size; some = some; held = (i, lowest) })) i lowest
+    find-lowest (e .owner) (e .address) (set t i e)
+    (find-exactly (e .owner) (e .address) (set t i e) .1 (record { size = length-set t i e ∙ size; some = some; held = (i, lowest-put) })) i lowest-put
     ∙ ap identifiers here
 
 -- a slave that was entered is found, with its identifiers
-pub find-entered : (s : Slave) (t : List Slave) → enterRefusal s t ≡ 0 → foundOf (s .address) (entered s t) ≡ identifiers s
-find-entered s t e =
-    let m = enter-exactly s t .0 e in
-    let inside = named-inside (Enter s) t e in
-    ap (foundOf (s .address)) (given (Enter s) t e)
-    ∙ put-found t (indexOf 0 t) s (m .size) inside (slave-nonzero (s .address) (m .address)) (λ k below. m .fresh k (omega (arith, below, inside)))
+pub find-entered : (s : Slave) (t : List Slave) → enterRefusal s t ≡ 0 → foundOf (s .owner) (s .address) (entered s t) ≡ identifiers s
+find-entered s t accepted =
+    let m = enter-exactly s t .0 accepted in
+    let inside = named-inside (Enter s) t accepted in
+    ap (foundOf (s .owner) (s .address)) (given (Enter s) t accepted)
+    ∙ put-found t (lowest isFree t) s (m .size) inside (slave-nonzero (s .address) (m .address)) (λ k below. m .fresh k (omega (arith, below, inside)))
 
--- "a changed address keeps its identifiers"
-pub changed-keeps : (from to : ℕ) (t : List Slave) → changeRefusal from to t ≡ 0 → foundOf to (changed from to t) ≡ foundOf from t
-changed-keeps from to t e =
-    let m = change-exactly from to t .0 e in
-    let inside = named-inside (Change from to) t e in
-    let lowest = index-lowest from t inside in
-    let lower : (k : ℕ) → k < indexOf from t → addressAt t k ≢ to =
-    λ k below. dite (ℕ-discrete to from) (λ same here. lowest .lower k below (here ∙ same)) (λ other. m .fresh other k (omega (arith, below, inside))) in
-    ap (foundOf to) (given (Change from to) t e)
-    ∙ put-found t (indexOf from t) (readdressed to (entryOf from t)) (m .size) inside (slave-nonzero to (m .new)) lower
-    ∙ sym (find-lowest from t (find-exactly from t .1 (record { size = m .size; some = m .some; held = m .held })) (indexOf from t) lowest)
+-- "a changed address keeps its identifiers", and its owner
+pub changed-keeps : (o : Bool) (from to : ℕ) (t : List Slave) → changeRefusal o from to t ≡ 0 → foundOf o to (changed o from to t) ≡ foundOf o from t
+changed-keeps o from to t accepted =
+    let m = change-exactly o from to t .0 accepted in
+    let inside = named-inside (Change o from to) t accepted in
+    let lowest-from = lowest-here (hasAddress o from) t inside in
+    let owner = changed-named o from to t accepted .0 in
+    let new = readdressed to (entryOf o from t) in
+    let lower : (k : ℕ) → k < indexOf o from t → hasAddress o to (getD t k none) ≡ false =
+    λ k below.
+    dite (ℕ-discrete to from)
+    (λ same. ap (λ (a : ℕ). hasAddress o a (getD t k none)) same ∙ lowest-from .lower k below)
+    (λ other. m .fresh other k (omega (arith, below, inside))) in
+    ap (foundOf o to) (given (Change o from to) t accepted)
+    ∙ ap (λ (x : Bool). foundOf x to (set t (indexOf o from t) new)) (sym owner)
+    ∙ put-found t (indexOf o from t) new (m .size) inside (slave-nonzero to (m .new)) (λ k below. ap (λ (x : Bool). hasAddress x to (getD t k none)) owner ∙ lower k below)
+    ∙ sym (find-lowest o from t (find-exactly o from t .1 (record { size = m .size; some = m .some; held = m .held })) (indexOf o from t) lowest-from)
 
 -- to the address that it has, it "succeeds and changes nothing"
-pub changed-same : (a : ℕ) (t : List Slave) → changeRefusal a a t ≡ 0 → changed a a t ≡ t
-changed-same a t e =
-    let inside = named-inside (Change a a) t e in
-    let entry : readdressed a (entryOf a t) ≡ entryOf a t = λ j. record { address = sym (index-lowest a t inside .here) j; product = entryOf a t .product; device = entryOf a t .device } in
-    given (Change a a) t e ∙ ap (set t (indexOf a t)) entry ∙ set-same t (indexOf a t)
-  where
-    set-same : (l : List Slave) (i : ℕ) → set l i (getD l i none) ≡ l
-    set-same [] i = refl
-    set-same (x ∷ l) zero = refl
-    set-same (x ∷ l) (suc i) = ap (λ (r : List Slave). x ∷ r) (set-same l i)
+pub changed-same : (o : Bool) (a : ℕ) (t : List Slave) → changeRefusal o a a t ≡ 0 → changed o a a t ≡ t
+changed-same o a t accepted =
+    let old = entryOf o a t in
+    let entry : readdressed a old ≡ old = λ j. record { address = sym (changed-named o a a t accepted .1) j; owner = old .owner; product = old .product; device = old .device } in
+    given (Change o a a) t accepted ∙ ap (set t (indexOf o a t)) entry ∙ set-same t (indexOf o a t)
 
--- no entry up to the one that is zeroed has a removed address any more: if it stood twice, the next one counts from now on
-pub removed-gone : (a : ℕ) (t : List Slave) → removeRefusal a t ≡ 0 → (k : ℕ) → k ≤ indexOf a t → addressAt (removed a t) k ≢ a
-removed-gone a t e k up-to here =
-    dite (ℕ-discrete k (indexOf a t))
-    (λ same. remove-exactly a t .0 e .some (sym here ∙ ap (λ (n : ℕ). addressAt (removed a t) n) same ∙ ap (λ (s : Slave). s .address) (named-put (Remove a) t e)))
-    (λ other. index-lowest a t (named-inside (Remove a) t e) .lower k (omega (arith, up-to, other)) (ap (λ (s : Slave). s .address) (sym (others-stay (Remove a) t k other)) ∙ here))
+-- no entry up to the one that is zeroed is the owner's with a removed address any more: if it stood twice, the next one counts from now on
+pub removed-gone : (o : Bool) (a : ℕ) (t : List Slave) → removeRefusal o a t ≡ 0 → (k : ℕ) → k ≤ indexOf o a t → hasAddress o a (getD (removed o a t) k none) ≡ false
+removed-gone o a t accepted k up-to =
+    dite (ℕ-discrete k (indexOf o a t))
+    (λ same.
+    let zeroed : getD (removed o a t) k none ≡ none = ap (λ (n : ℕ). getD (removed o a t) n none) same ∙ named-put (Remove o a) t accepted in
+    other-address o a _ (λ at. remove-exactly o a t .0 accepted .some (sym at ∙ ap (λ (s : Slave). s .address) zeroed)))
+    (λ other.
+    ap (hasAddress o a) (others-stay (Remove o a) t k other)
+    ∙ lowest-here (hasAddress o a) t (named-inside (Remove o a) t accepted) .lower k (omega (arith, up-to, other)))
 
 -- where it stood twice, that one is found, with its identifiers
-pub removed-next : (a : ℕ) (t : List Slave) → removeRefusal a t ≡ 0 → (i : ℕ) → Lowest a (removed a t) i
-    → (indexOf a t < i) × (foundOf a (removed a t) ≡ identifiers (getD t i none))
-removed-next a t e i x =
-    let f = remove-exactly a t .0 e in
-    let held = find-exactly a (removed a t) .1 (record { size = length-stays (Remove a) t ∙ f .size; some = f .some; held = (i, x) }) in
-    let behind : i ≤ indexOf a t → ⊥ = λ up-to. removed-gone a t e i up-to (x .here) in
-    let past : indexOf a t < i = omega (arith, behind) in
-    (past, find-lowest a (removed a t) held i x ∙ ap identifiers (others-stay (Remove a) t i (λ same. omega (arith, past, same))))
+pub removed-next : (o : Bool) (a : ℕ) (t : List Slave) → removeRefusal o a t ≡ 0 → (i : ℕ) → Lowest (hasAddress o a) (removed o a t) i
+    → (indexOf o a t < i) × (foundOf o a (removed o a t) ≡ identifiers (getD t i none))
+removed-next o a t accepted i x =
+    let f = remove-exactly o a t .0 accepted in
+    let held = find-exactly o a (removed o a t) .1 (record { size = length-stays (Remove o a) t ∙ f .size; some = f .some; held = (i, x) }) in
+    let behind : i ≤ indexOf o a t → ⊥ = λ up-to. true≢false (sym (x .here) ∙ removed-gone o a t accepted i up-to) in
+    let past : indexOf o a t < i = omega (arith, behind) in
+    (past, find-lowest o a (removed o a t) held i x ∙ ap identifiers (others-stay (Remove o a) t i (λ same. omega (arith, past, same))))
 
--- ── an address stands once
+-- ── an owner has an address once
 
--- no address stands twice in the table; 0 may, being that of the free entries
+abbrev addressAt : List Slave → ℕ → ℕ
+addressAt t k = getD t k none .address
+
+abbrev ownerAt : List Slave → ℕ → Bool
+ownerAt t k = getD t k none .owner
+
+-- two entries that aren't free differ in address or owner
 abbrev pub Once : List Slave → Type 0
-Once t = (i k : ℕ) → addressAt t i ≢ 0 → addressAt t i ≡ addressAt t k → i ≡ k
+Once t = (i k : ℕ) → addressAt t i ≢ 0 → addressAt t i ≡ addressAt t k → ownerAt t i ≡ ownerAt t k → i ≡ k
 
 -- so in the empty table
-pub once-empty : Once (replicate 32 none)
-once-empty i k some same = absurd (some (all-free 32 i))
+pub once-empty : Once empty
+once-empty i k some same own = absurd (some (all-free 32 i))
   where
     all-free : (n i : ℕ) → addressAt (replicate n none) i ≡ 0
     all-free zero i = refl
     all-free (suc n) zero = refl
     all-free (suc n) (suc i) = all-free n i
 
--- in a table with another entry, whose address no other entry has
-module _ (t : List Slave) (j : ℕ) (e : Slave) (inside : j < length t) (once : Once t) (alone : (k : ℕ) → k ≢ j → e .address ≢ 0 → addressAt t k ≢ e .address) where
+-- in a table with another entry, whose address its owner has nowhere else
+module _ (t : List Slave) (j : ℕ) (e : Slave) (inside : j < length t) (once : Once t)
+    (alone : (k : ℕ) → k ≢ j → e .address ≢ 0 → addressAt t k ≡ e .address → ownerAt t k ≡ e .owner → ⊥) where
   abbrev put : List Slave
   put = set t j e
 
-  here : (i : ℕ) → i ≡ j → addressAt put i ≡ e .address
-  here i at = ap (addressAt put) at ∙ ap (λ (s : Slave). s .address) (getD-set-same t j e none inside)
+  here : (i : ℕ) → i ≡ j → getD put i none ≡ e
+  here i at = ap (λ (n : ℕ). getD put n none) at ∙ getD-set-same t j e none inside
 
-  there : (i : ℕ) → i ≢ j → addressAt put i ≡ addressAt t i
-  there i other = ap (λ (s : Slave). s .address) (getD-set-other t j i e none other)
+  there : (i : ℕ) → i ≢ j → getD put i none ≡ getD t i none
+  there i other = getD-set-other t j i e none other
+
+  address : {x y : Slave} → x ≡ y → x .address ≡ y .address
+  address same = ap (λ (s : Slave). s .address) same
+
+  owner : {x y : Slave} → x ≡ y → x .owner ≡ y .owner
+  owner same = ap (λ (s : Slave). s .owner) same
 
   -- the new entry's address stands nowhere else
-  clash : (i k : ℕ) → i ≡ j → k ≢ j → addressAt put i ≢ 0 → addressAt put i ≡ addressAt put k → ⊥
-  clash i k at other some same = alone k other (λ z. some (here i at ∙ z)) (sym (there k other) ∙ sym same ∙ here i at)
+  clash : (i k : ℕ) → i ≡ j → k ≢ j → addressAt put i ≢ 0 → addressAt put i ≡ addressAt put k → ownerAt put i ≡ ownerAt put k → ⊥
+  clash i k at other some same own =
+      alone k other (λ z. some (address (here i at) ∙ z)) (sym (address (there k other)) ∙ sym same ∙ address (here i at)) (sym (owner (there k other)) ∙ sym own ∙ owner (here i at))
 
   put-once : Once put
-  put-once i k some same =
+  put-once i k some same own =
       dite (ℕ-discrete i j)
-      (λ i-at. dite (ℕ-discrete k j) (λ k-at. i-at ∙ sym k-at) (λ k-other. absurd (clash i k i-at k-other some same)))
+      (λ i-at. dite (ℕ-discrete k j) (λ k-at. i-at ∙ sym k-at) (λ k-other. absurd (clash i k i-at k-other some same own)))
       (λ i-other. dite (ℕ-discrete k j)
-      (λ k-at. absurd (clash k i k-at i-other (λ z. some (same ∙ z)) (sym same)))
-      (λ k-other. once i k (λ z. some (there i i-other ∙ z)) (sym (there i i-other) ∙ same ∙ there k k-other)))
+      (λ k-at. absurd (clash k i k-at i-other (λ z. some (same ∙ z)) (sym same) (sym own)))
+      (λ k-other.
+      once i k (λ z. some (address (there i i-other) ∙ z)) (sym (address (there i i-other)) ∙ same ∙ address (there k k-other))
+      (sym (owner (there i i-other)) ∙ own ∙ owner (there k k-other))))
 
-put-alone : (o : Operation) (t : List Slave) → Once t → refusalOf o t ≡ 0 → (k : ℕ) → k ≢ indexNamed o t → entryPut o t .address ≢ 0 → addressAt t k ≢ entryPut o t .address
-put-alone (Enter s) t once e k other some = nowhere-at (s .address) t (enter-exactly s t .0 e .fresh) some k
-put-alone (Change from to) t once e k other some =
-    let lowest = index-lowest from t (named-inside (Change from to) t e) in
+-- an owner's address that no entry inside has, no entry at all has, unless it is 0
+nowhere-at : (o : Bool) (a : ℕ) (t : List Slave) → Nowhere (hasAddress o a) t → a ≢ 0 → (k : ℕ) → addressAt t k ≡ a → ownerAt t k ≡ o → ⊥
+nowhere-at o a t nowhere some k at own =
+    dite (decLt k (length t))
+    (λ inside. true≢false (sym (address-exactly (getD t k none) o a .1 (own, at)) ∙ nowhere k inside))
+    (λ past. some (sym at ∙ ap (λ (s : Slave). s .address) (List·getD-eq-default t none (omega (arith, past)))))
+
+put-alone : (op : Operation) (t : List Slave) → Once t → refusalOf op t ≡ 0 → (k : ℕ) → k ≢ indexNamed op t → entryPut op t .address ≢ 0
+    → addressAt t k ≡ entryPut op t .address → ownerAt t k ≡ entryPut op t .owner → ⊥
+put-alone (Enter s) t once accepted k other some at own = nowhere-at (s .owner) (s .address) t (enter-exactly s t .0 accepted .fresh) some k at own
+put-alone (Find o a) t once accepted k other some at own = other (once k (indexOf o a t) (λ z. some (sym at ∙ z)) at own)
+put-alone (Change o from to) t once accepted k other some at own =
+    let named = changed-named o from to t accepted in
     dite (ℕ-discrete to from)
-    (λ same at. other (once k (indexOf from t) (λ z. some (sym at ∙ z)) (at ∙ same ∙ sym (lowest .here))))
-    (λ new. nowhere-at to t (change-exactly from to t .0 e .fresh new) some k)
-put-alone (Remove a) t once e k other some = absurd (some refl)
+    (λ same. other (once k (indexOf o from t) (λ z. some (sym at ∙ z)) (at ∙ same ∙ sym (named .1)) own))
+    (λ new. nowhere-at o to t (change-exactly o from to t .0 accepted .fresh new) some k at (own ∙ named .0))
+put-alone (Remove o a) t once accepted k other some at own = some refl
 
 -- and so after every operation
-pub once-kept : (o : Operation) (t : List Slave) → Once t → Once (tableAfter o t)
-once-kept o t once = either o t Once once (λ e. put-once t (indexNamed o t) (entryPut o t) (named-inside o t e) once (put-alone o t once e))
+pub once-kept : (op : Operation) (t : List Slave) → Once t → Once (tableAfter op t)
+once-kept op t once =
+    either op t Once once (λ accepted. put-once t (indexNamed op t) (entryPut op t) (named-inside op t accepted) once (put-alone op t once accepted))
 
--- an address that stands nowhere but at the index that an operation names is found no more, if the entry there has another one then
-gone : (o : Operation) (t : List Slave) (a : ℕ) → Once t → refusalOf o t ≡ 0 → length t ≡ 32 → a ≢ 0 → addressAt t (indexNamed o t) ≡ a → entryPut o t .address ≢ a
-    → foundOf a (tableAfter o t) .number ≡ 17
-gone o t a once e size some was new =
-    find-missing a (tableAfter o t) (length-stays o t ∙ size)
-    (λ k inside at.
-    dite (ℕ-discrete k (indexNamed o t))
-    (λ same. new (sym (ap (λ (s : Slave). s .address) (ap (λ (n : ℕ). getD (tableAfter o t) n none) same ∙ named-put o t e)) ∙ at))
+-- an owner's address that stands nowhere but at the index that an operation names is found no more, if the entry there has another one then
+gone : (op : Operation) (t : List Slave) (o : Bool) (a : ℕ) → Once t → refusalOf op t ≡ 0 → length t ≡ 32 → a ≢ 0
+    → (ownerAt t (indexNamed op t) ≡ o) × (addressAt t (indexNamed op t) ≡ a) → entryPut op t .address ≢ a → foundOf o a (tableAfter op t) .number ≡ 17
+gone op t o a once accepted size some (own, was) new =
+    find-missing o a (tableAfter op t) (length-stays op t ∙ size)
+    (λ k inside. false-if _ (λ y.
+    dite (ℕ-discrete k (indexNamed op t))
+    (λ same. new (sym (ap (λ (s : Slave). s .address) (ap (λ (n : ℕ). getD (tableAfter op t) n none) same ∙ named-put op t accepted)) ∙ address-exactly _ o a .0 y .1))
     (λ other.
-    let before : addressAt t k ≡ a = ap (λ (s : Slave). s .address) (sym (others-stay o t k other)) ∙ at in
-    other (once k (indexNamed o t) (λ z. some (sym before ∙ z)) (before ∙ sym was))))
+    let before = address-exactly (getD t k none) o a .0 (sym (ap (hasAddress o a) (others-stay op t k other)) ∙ y) in
+    other (once k (indexNamed op t) (λ z. some (sym (before .1) ∙ z)) (before .1 ∙ sym was) (before .0 ∙ sym own)))))
 
 -- so an address that was changed is found no more
-pub changed-once : (from to : ℕ) (t : List Slave) → Once t → changeRefusal from to t ≡ 0 → to ≢ from → foundOf from (changed from to t) .number ≡ 17
-changed-once from to t once e other =
-    let m = change-exactly from to t .0 e in
-    gone (Change from to) t from once e (m .size) (m .some) (index-lowest from t (named-inside (Change from to) t e) .here) other
+pub changed-once : (o : Bool) (from to : ℕ) (t : List Slave) → Once t → changeRefusal o from to t ≡ 0 → to ≢ from → foundOf o from (changed o from to t) .number ≡ 17
+changed-once o from to t once accepted other =
+    let m = change-exactly o from to t .0 accepted in
+    gone (Change o from to) t o from once accepted (m .size) (m .some) (changed-named o from to t accepted) other
 
 -- nor one that was removed
-pub removed-once : (a : ℕ) (t : List Slave) → Once t → removeRefusal a t ≡ 0 → foundOf a (removed a t) .number ≡ 17
-removed-once a t once e =
-    let f = remove-exactly a t .0 e in
-    gone (Remove a) t a once e (f .size) (f .some) (index-lowest a t (named-inside (Remove a) t e) .here) (λ z. f .some (sym z))
+pub removed-once : (o : Bool) (a : ℕ) (t : List Slave) → Once t → removeRefusal o a t ≡ 0 → foundOf o a (removed o a t) .number ≡ 17
+removed-once o a t once accepted =
+    let f = remove-exactly o a t .0 accepted in
+    gone (Remove o a) t o a once accepted (f .size) (f .some) (removed-named o a t accepted) (λ z. f .some (sym z))
 
--- ── what finding tells of every other address
+-- ── what finding tells of every other address, and of the other owner's
 
--- the addresses that an operation is about
-abbrev pub Concerns : Operation → ℕ → Type 0
-Concerns (Enter s) a = a ≡ s .address
-Concerns (Change from to) a = (a ≡ from) ⊎ (a ≡ to)
-Concerns (Remove a′) a = a ≡ a′
+-- the owner's addresses that an operation is about
+abbrev pub Concerns : Operation → Bool → ℕ → Type 0
+Concerns (Enter s) o a = (o ≡ s .owner) × (a ≡ s .address)
+Concerns (Find o′ a′) o a = (o ≡ o′) × (a ≡ a′)
+Concerns (Change o′ from to) o a = (o ≡ o′) × ((a ≡ from) ⊎ (a ≡ to))
+Concerns (Remove o′ a′) o a = (o ≡ o′) × (a ≡ a′)
 
--- the entry that goes, and the one that is put in its place, have none of the other addresses
-unconcerned : (o : Operation) (t : List Slave) (a : ℕ) → a ≢ 0 → (Concerns o a → ⊥) → refusalOf o t ≡ 0 → (addressAt t (indexNamed o t) ≢ a) × (entryPut o t .address ≢ a)
-unconcerned (Enter s) t a some other e = (λ at. some (sym at ∙ index-lowest 0 t (named-inside (Enter s) t e) .here), λ at. other (sym at))
-unconcerned (Change from to) t a some other e = (λ at. other (inl (sym at ∙ index-lowest from t (named-inside (Change from to) t e) .here)), λ at. other (inr (sym at)))
-unconcerned (Remove b) t a some other e = (λ at. other (sym at ∙ index-lowest b t (named-inside (Remove b) t e) .here), λ at. some (sym at))
+-- an entry with one owner's address has no other
+differs : (o : Bool) (a : ℕ) (e : Slave) {o′ : Bool} {b : ℕ} → (e .owner ≡ o′) × (e .address ≡ b) → ((o ≡ o′) × (a ≡ b) → ⊥) → hasAddress o a e ≡ false
+differs o a e (own, at) other = false-if _ (λ y. let named = address-exactly e o a .0 y in other (sym (named .0) ∙ own, sym (named .1) ∙ at))
+
+-- neither the entry that goes nor the one that is put in its place has one of the others
+unconcerned : (op : Operation) (t : List Slave) (o : Bool) (a : ℕ) → a ≢ 0 → (Concerns op o a → ⊥) → refusalOf op t ≡ 0
+    → (hasAddress o a (getD t (indexNamed op t) none) ≡ false) × (hasAddress o a (entryPut op t) ≡ false)
+unconcerned (Enter s) t o a some other accepted = (
+  other-address o a _ (λ at. some (sym at ∙ free-named s t accepted)),
+  false-if _ (λ y. let named = address-exactly s o a .0 y in other (sym (named .0), sym (named .1))),
+)
+unconcerned (Find o′ b) t o a some other accepted = let unnamed = differs o a (entryOf o′ b t) (found-named o′ b t accepted) other in (unnamed, unnamed)
+unconcerned (Change o′ from to) t o a some other accepted =
+    let was = changed-named o′ from to t accepted in (
+      differs o a (entryOf o′ from t) was (λ (own, at). other (own, inl at)),
+      differs o a (readdressed to (entryOf o′ from t)) (was .0, refl) (λ (own, at). other (own, inr at)),
+    )
+unconcerned (Remove o′ b) t o a some other accepted = (differs o a (entryOf o′ b t) (removed-named o′ b t accepted) other, other-address o a none (λ at. some (sym at)))
 
 -- is what it was
-pub others-found : (o : Operation) (t : List Slave) (a : ℕ) → (Concerns o a → ⊥) → foundOf a (tableAfter o t) ≡ foundOf a t
-others-found o t a other =
+pub others-found : (op : Operation) (t : List Slave) (o : Bool) (a : ℕ) → (Concerns op o a → ⊥) → foundOf o a (tableAfter op t) ≡ foundOf o a t
+others-found op t o a other =
     dite (ℕ-discrete a 0)
-    (λ zero-is. subst (λ (n : ℕ). foundOf n (tableAfter o t) ≡ foundOf n t) (sym zero-is)
-    (find-zero (tableAfter o t) ∙ ap {B = Found} (λ (n : ℕ). record { number = choose (eqb n 32) 17 24; product = 0; device = 0 }) (length-stays o t) ∙ sym (find-zero t)))
-    (λ some. either o t (λ (l : List Slave). foundOf a l ≡ foundOf a t) refl (λ e. put-same e some (unconcerned o t a some other e)))
+    (λ zero-is. subst (λ (n : ℕ). foundOf o n (tableAfter op t) ≡ foundOf o n t) (sym zero-is)
+    (find-zero o (tableAfter op t) ∙ ap (λ (n : ℕ). numberAlone (choose (eqb n 32) 17 24)) (length-stays op t) ∙ sym (find-zero o t)))
+    (λ some. either op t (λ (l : List Slave). foundOf o a l ≡ foundOf o a t) refl (λ accepted. put-same accepted (unconcerned op t o a some other accepted)))
   where
-    put-same : refusalOf o t ≡ 0 → a ≢ 0 → (addressAt t (indexNamed o t) ≢ a) × (entryPut o t .address ≢ a) → foundOf a (set t (indexNamed o t) (entryPut o t)) ≡ foundOf a t
-    put-same e some (old, new) =
-        let j = indexNamed o t in
-        let elsewhere : indexOf a t ≢ j = λ at. old (ap (addressAt t) (sym at) ∙ index-lowest a t (subst (λ (n : ℕ). n < length t) (sym at) (named-inside o t e)) .here) in
-        find-same a t (set t j (entryPut o t)) (length-set t j (entryPut o t)) (set-other t j (entryPut o t) a old new) (getD-set-other t j (indexOf a t) (entryPut o t) none elsewhere)
+    put-same : refusalOf op t ≡ 0 → (hasAddress o a (getD t (indexNamed op t) none) ≡ false) × (hasAddress o a (entryPut op t) ≡ false)
+        → foundOf o a (set t (indexNamed op t) (entryPut op t)) ≡ foundOf o a t
+    put-same accepted (old, new) =
+        let j = indexNamed op t in
+        let elsewhere : indexOf o a t ≢ j =
+        λ at. true≢false (sym (lowest-here (hasAddress o a) t (subst (λ (n : ℕ). n < length t) (sym at) (named-inside op t accepted)) .here) ∙ ap (λ (n : ℕ). hasAddress o a (getD t n none)) at ∙ old) in
+        find-same o a t (set t j (entryPut op t)) (length-set t j (entryPut op t)) (set-other (hasAddress o a) t j (entryPut op t) old new) (getD-set-other t j (indexOf o a t) (entryPut op t) none elsewhere)
+
+-- whatever the other owner does
+pub neighbour-found : (op : Operation) (t : List Slave) (o : Bool) (a : ℕ) → ownerOf op ≢ o → foundOf o a (tableAfter op t) ≡ foundOf o a t
+neighbour-found op t o a other = others-found op t o a (λ concerned. other (sym (own op concerned)))
+  where
+    own : (op : Operation) → Concerns op o a → o ≡ ownerOf op
+    own (Enter s) (is, at) = is
+    own (Find o′ b) (is, at) = is
+    own (Change o′ from to) (is, at) = is
+    own (Remove o′ b) (is, at) = is

@@ -1,15 +1,17 @@
 -- Each answer of the functions, by the tests that led to it.
-use Prim.Native.Nat.{ℕ, _≤_, _<_}
+use Prim.Native.Nat.{ℕ, _+_, _%_, _^_, _≤_, _<_}
 use mathlib.Core.Path.{_≡_, sym, ap}
 use mathlib.Core.Logic.{_≢_}
-use mathlib.Core.Bool.{Bool, true, false, not, _&&_}
-use lib.Dec.{leb, ltb}
-use borrow.Author.Tests.{eq-eqb, ne-eqb, le-leb, lt-leb, lt-ltb, le-ltb}
+use mathlib.Core.Bool.{Bool, true, false, not, _&&_, Bool·beq}
+use lib.Dec.{eqb, leb, ltb}
+use borrow.Author.Tests.{not-true, not-false, eq-eqb, ne-eqb, le-leb, lt-leb, lt-ltb, le-ltb}
 use Rattle.basics.specs.Choice.{choose, first}
 use Rattle.slave_id.specs.SlaveId.{tooWide}
-use Rattle.slave_plans.specs.Answer.{notSlave, isAbsent, isTaken, enterLines, findLines, foundBy, changeLines}
-use Rattle.slave_plans.specs.Plan.{searchStart}
+use Rattle.slave_plans.specs.Answer.{notSlave, isAbsent, isFull, isTaken, enterLines, findLines, foundBy, changeLines}
+use Rattle.slave_plans.specs.Table.{isFree, belongsTo, hasAddress}
+use Rattle.slave_plans.specs.Plan.{searchStart, occupancyWith}
 use Rattle.slave_plans.specs.declared.Slave.{Slave}
+use Rattle.slave_plans.specs.declared.Occupancy.{Occupancy}
 
 -- ── where the search begins
 
@@ -22,6 +24,35 @@ module _ (size : ℕ) where
   unfolding choose
   start-wrong n = rw (ne-eqb size 32 n)
 
+-- ── what is seen of an entry
+
+module _ (owner : Bool) (entry : Slave) where
+  abbrev same : Bool
+  same = Bool·beq (entry .owner) owner
+
+  module _ (address : ℕ) where
+    pub address-other : not same ≡ true → false ≡ hasAddress owner address entry
+    unfolding hasAddress
+    address-other other = rw (not-true same other)
+
+    pub address-own : not same ≡ false → eqb (entry .address) address ≡ hasAddress owner address entry
+    unfolding hasAddress
+    address-own own = rw (not-false same own)
+
+  module _ (index : ℕ) (behind : Occupancy) where
+    pub count-free : entry .address ≡ 0 → record { held = behind .held; free = index } ≡ occupancyWith owner index entry behind
+    unfolding occupancyWith belongsTo isFree choose
+    count-free free = rw (eq-eqb _ _ free)
+
+    pub count-other : entry .address ≢ 0 → not same ≡ true → behind ≡ occupancyWith owner index entry behind
+    unfolding occupancyWith belongsTo isFree choose
+    count-other taken other = rw (ne-eqb _ _ taken, not-true same other)
+
+    pub count-own : entry .address ≢ 0 → not same ≡ false → (held : ℕ) → held ≡ (behind .held + 1) % 2 ^ 64
+        → record { held = held; free = behind .free } ≡ occupancyWith owner index entry behind
+    unfolding occupancyWith belongsTo isFree choose
+    count-own taken own held is = rw (ne-eqb _ _ taken, not-false same own, is)
+
 -- ── the tests
 
 module _ (size at address : ℕ) where
@@ -32,6 +63,15 @@ module _ (size at address : ℕ) where
   pub absent-nowhere : address ≢ 0 → leb size at ≡ isAbsent size at address
   unfolding isAbsent
   absent-nowhere n = rw (ne-eqb address 0 n)
+
+module _ (size : ℕ) (occupancy : Occupancy) where
+  pub full-held : 24 ≤ occupancy .held → true ≡ isFull size occupancy
+  unfolding isFull
+  full-held l = rw (le-leb 24 (occupancy .held) l)
+
+  pub full-free : occupancy .held < 24 → leb size (occupancy .free) ≡ isFull size occupancy
+  unfolding isFull
+  full-free l = rw (lt-leb 24 (occupancy .held) l)
 
 module _ (size other from to : ℕ) where
   -- a change to the address that the slave has is never refused as 15
@@ -45,9 +85,9 @@ module _ (size other from to : ℕ) where
 
 -- ── the first line that applies
 
-module _ (size at free : ℕ) (slave : Slave) where
+module _ (size at : ℕ) (occupancy : Occupancy) (slave : Slave) where
   abbrev entering : ℕ
-  entering = first (enterLines size at free slave)
+  entering = first (enterLines size at occupancy slave)
 
   pub enter-24 : size ≢ 32 → 24 ≡ entering
   unfolding choose
@@ -69,13 +109,13 @@ module _ (size at free : ℕ) (slave : Slave) where
         enter-15 there = rw (eq-eqb _ _ right, address, narrow, lt-ltb at size there)
 
         module _ (fresh : size ≤ at) where
-          pub enter-16 : size ≤ free → 16 ≡ entering
+          pub enter-16 : isFull size occupancy ≡ true → 16 ≡ entering
           unfolding choose
-          enter-16 full = rw (eq-eqb _ _ right, address, narrow, le-ltb at size fresh, le-leb size free full)
+          enter-16 e = rw (eq-eqb _ _ right, address, narrow, le-ltb at size fresh, e)
 
-          pub enter-0 : free < size → 0 ≡ entering
+          pub enter-0 : isFull size occupancy ≡ false → 0 ≡ entering
           unfolding choose
-          enter-0 room = rw (eq-eqb _ _ right, address, narrow, le-ltb at size fresh, lt-leb size free room)
+          enter-0 e = rw (eq-eqb _ _ right, address, narrow, le-ltb at size fresh, e)
 
 module _ (size at address : ℕ) where
   abbrev finding : ℕ

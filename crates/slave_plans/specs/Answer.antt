@@ -1,4 +1,4 @@
--- What each operation on the table answers, and the table afterwards: request No. 7's refusals 24 and 14 to 18 in the stated orders.
+-- What each operation on the table answers, and the table afterwards: the refusals 24 and 14 to 18 of requests No. 7 and No. 8 in the stated orders.
 -- `size` is the table's length; an index that is at least the size is that of no entry.
 use Prim.Native.Nat.{ℕ, _/_, _%_, _^_}
 use mathlib.Core.Bool.{Bool, _&&_, _||_, not}
@@ -8,9 +8,10 @@ use lib.ListN.{length, getD, set}
 use Rattle.basics.specs.Choice.{choose, first}
 use Rattle.basics.specs.Words.{highWord}
 use Rattle.slave_id.specs.SlaveId.{tooWide}
-use Rattle.slave_plans.specs.Table.{none, indexOf}
+use Rattle.slave_plans.specs.Table.{none, indexOf, occupancyOf}
 use Rattle.slave_plans.specs.declared.Slave.{Slave}
 use Rattle.slave_plans.specs.declared.Found.{Found}
+use Rattle.slave_plans.specs.declared.Occupancy.{Occupancy}
 
 -- ── the tests
 
@@ -26,6 +27,10 @@ notSlave address = not (eqb (address / 2 ^ 12 % 2 ^ 3) 2) || (highWord address |
 unfoldable pub isAbsent : ℕ → ℕ → ℕ → Bool
 isAbsent size at address = eqb address 0 || leb size at
 
+-- 16: "given exactly when it holds 24 or more, or no entry is free"
+unfoldable pub isFull : ℕ → Occupancy → Bool
+isFull size occupancy = leb 24 (occupancy .held) || leb size (occupancy .free)
+
 -- 15 when changing: the new address is already there, "unless it equals the old"
 unfoldable pub isTaken : ℕ → ℕ → ℕ → ℕ → Bool
 isTaken size other from to = not (eqb to from) && ltb other size
@@ -36,22 +41,23 @@ tableWith refusal index entry table = choose (eqb refusal 0) (set table index en
 
 -- ── entering
 
--- "Order 14, 18, 15 and 16 when entering"; 15: the address is already there, 16: no free entry
-abbrev pub enterLines : ℕ → ℕ → ℕ → Slave → List (Bool × ℕ)
-enterLines size at free slave =
+-- "Order 14, 18, 15 and 16 when entering"; 15: the address is already there
+abbrev pub enterLines : ℕ → ℕ → Occupancy → Slave → List (Bool × ℕ)
+enterLines size at occupancy slave =
     lengthLine size
     ∷ (notSlave (slave .address), 14)
     ∷ (tooWide (slave .product) (slave .device), 18)
     ∷ (ltb at size, 15)
-    ∷ (leb size free, 16)
+    ∷ (isFull size occupancy, 16)
     ∷ []
 
 unfoldable pub enterRefusal : Slave → List Slave → ℕ
-enterRefusal slave table = first (enterLines (length table) (indexOf (slave .address) table) (indexOf 0 table) slave)
+enterRefusal slave table =
+    first (enterLines (length table) (indexOf (slave .owner) (slave .address) table) (occupancyOf (slave .owner) table) slave)
 
 -- "entering takes the lowest free one"
 abbrev pub entered : Slave → List Slave → List Slave
-entered slave table = tableWith (enterRefusal slave table) (indexOf 0 table) slave table
+entered slave table = tableWith (enterRefusal slave table) (occupancyOf (slave .owner) table .free) slave table
 
 -- ── finding
 
@@ -69,11 +75,11 @@ foundBy size at entry address =
       device = choose (eqb refusal 0) (entry .device) 0;
     }
 
-abbrev pub entryOf : ℕ → List Slave → Slave
-entryOf address table = getD table (indexOf address table) none
+abbrev pub entryOf : Bool → ℕ → List Slave → Slave
+entryOf owner address table = getD table (indexOf owner address table) none
 
-abbrev pub foundOf : ℕ → List Slave → Found
-foundOf address table = foundBy (length table) (indexOf address table) (entryOf address table) address
+abbrev pub foundOf : Bool → ℕ → List Slave → Found
+foundOf owner address table = foundBy (length table) (indexOf owner address table) (entryOf owner address table) address
 
 -- ── changing an address
 
@@ -86,21 +92,22 @@ changeLines size at other from to =
     ∷ (isTaken size other from to, 15)
     ∷ []
 
-unfoldable pub changeRefusal : ℕ → ℕ → List Slave → ℕ
-changeRefusal from to table = first (changeLines (length table) (indexOf from table) (indexOf to table) from to)
+unfoldable pub changeRefusal : Bool → ℕ → ℕ → List Slave → ℕ
+changeRefusal owner from to table = first (changeLines (length table) (indexOf owner from table) (indexOf owner to table) from to)
 
--- "a changed address keeps its identifiers"
+-- "a changed address keeps its identifiers", and its owner
 abbrev pub readdressed : ℕ → Slave → Slave
-readdressed address entry = record { address = address; product = entry .product; device = entry .device }
+readdressed address entry = record { address = address; owner = entry .owner; product = entry .product; device = entry .device }
 
-abbrev pub changed : ℕ → ℕ → List Slave → List Slave
-changed from to table = tableWith (changeRefusal from to table) (indexOf from table) (readdressed to (entryOf from table)) table
+abbrev pub changed : Bool → ℕ → ℕ → List Slave → List Slave
+changed owner from to table =
+    tableWith (changeRefusal owner from to table) (indexOf owner from table) (readdressed to (entryOf owner from table)) table
 
 -- ── removing
 
-unfoldable pub removeRefusal : ℕ → List Slave → ℕ
-removeRefusal address table = first (findLines (length table) (indexOf address table) address)
+unfoldable pub removeRefusal : Bool → ℕ → List Slave → ℕ
+removeRefusal owner address table = first (findLines (length table) (indexOf owner address table) address)
 
 -- "removing zeroes the entry"
-abbrev pub removed : ℕ → List Slave → List Slave
-removed address table = tableWith (removeRefusal address table) (indexOf address table) none table
+abbrev pub removed : Bool → ℕ → List Slave → List Slave
+removed owner address table = tableWith (removeRefusal owner address table) (indexOf owner address table) none table

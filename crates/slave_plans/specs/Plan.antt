@@ -1,29 +1,45 @@
 -- What each operation plans, from what was seen of the table: the answer, and an entry with the index where it is put.
-use Prim.Native.Nat.{ℕ}
+use Prim.Native.Nat.{ℕ, _+_, _%_, _^_}
+use mathlib.Core.Bool.{Bool}
 use mathlib.Core.List.{List}
 use lib.Dec.{eqb}
 use lib.ListN.{length}
 use Rattle.basics.specs.Choice.{choose, first}
-use Rattle.slave_plans.specs.Table.{none, indexOf}
+use Rattle.slave_plans.specs.Table.{none, isFree, belongsTo, indexOf, occupancyOf}
 use Rattle.slave_plans.specs.Answer.{enterLines, findLines, changeLines, readdressed}
 use Rattle.slave_plans.specs.declared.Slave.{Slave}
+use Rattle.slave_plans.specs.declared.Occupancy.{Occupancy}
 use Rattle.slave_plans.specs.declared.Plan.{Plan}
 
--- where the search for an address begins: in a table of a wrong length behind the last entry, so that none of it is looked at before 24 is given
+-- the first entry that is looked at: in a table of a wrong length none, so that it isn't read before 24 is given
 abbrev pub searchStart : ℕ → ℕ
 searchStart size = choose (eqb size 32) 0 size
 
 -- what the search gives
-abbrev pub indexSought : ℕ → List Slave → ℕ
-indexSought address table = choose (eqb (length table) 32) (indexOf address table) (length table)
+abbrev pub indexSought : Bool → ℕ → List Slave → ℕ
+indexSought owner address table = choose (eqb (length table) 32) (indexOf owner address table) (length table)
+
+-- what counting gives: of no entries, of those from an index on by what was counted of those behind it, and of a table
+abbrev pub occupancyNone : ℕ → Occupancy
+occupancyNone size = record { held = 0; free = size }
+
+unfoldable pub occupancyWith : Bool → ℕ → Slave → Occupancy → Occupancy
+occupancyWith owner index entry behind =
+    record {
+      held = choose (belongsTo owner entry) ((behind .held + 1) % 2 ^ 64) (behind .held);
+      free = choose (isFree entry) index (behind .free);
+    }
+
+abbrev pub occupancyCounted : Bool → List Slave → Occupancy
+occupancyCounted owner table = choose (eqb (length table) 32) (occupancyOf owner table) (occupancyNone (length table))
 
 -- by the refusal's number or 0: an entry to be put or, refused, nothing, which is an entry past the end
 abbrev pub planBy : ℕ → ℕ → ℕ → Slave → Plan
 planBy refusal size index entry =
     choose (eqb refusal 0) (record { number = 0; index = index; entry = entry }) (record { number = refusal; index = size; entry = none })
 
-abbrev pub enterPlan : ℕ → ℕ → ℕ → Slave → Plan
-enterPlan size at free slave = planBy (first (enterLines size at free slave)) size free slave
+abbrev pub enterPlan : ℕ → ℕ → Occupancy → Slave → Plan
+enterPlan size at occupancy slave = planBy (first (enterLines size at occupancy slave)) size (occupancy .free) slave
 
 abbrev pub changePlan : ℕ → ℕ → Slave → ℕ → ℕ → ℕ → Plan
 changePlan size at entry other from to = planBy (first (changeLines size at other from to)) size at (readdressed to entry)

@@ -1,18 +1,25 @@
-// What each operation on a table of slaves (request No. 7) decides, from what crate slaves has seen of the table: its size, and the indices
-// where addresses stand, which are the size for an address that stands nowhere.
+// What each operation on a table of slaves (requests No. 7 and No. 8) decides, from what crate slaves has seen of the table: its size, the
+// indices where an owner's addresses stand, which are the size for an address that stands nowhere, and how much of it is taken.
 ghost use mathlib.Core.Path.{_≡_};
-ghost use lib.Dec.{eqb};
 ghost use Rattle.basics.specs.Choice.{first};
-ghost use Rattle.slave_plans.specs.Answer.{notSlave, isAbsent, isTaken, enterLines, findLines, foundBy, changeLines, readdressed};
+ghost use Rattle.slave_plans.specs.Answer.{notSlave, isAbsent, isFull, isTaken, enterLines, findLines, foundBy, changeLines, readdressed};
 ghost use Rattle.slave_plans.specs.Table;
-ghost use Rattle.slave_plans.specs.Plan.{searchStart, planBy, enterPlan, changePlan, removePlan};
+ghost use Rattle.slave_plans.specs.Table.{hasAddress};
+ghost use Rattle.slave_plans.specs.Plan.{searchStart, occupancyNone, occupancyWith, planBy, enterPlan, changePlan, removePlan};
 
 // An entry of the table. It is free exactly if its address is 0.
 #[repr(C)]
 pub struct Slave {
     pub address: u16,
+    pub owner: bool,
     pub product: u32,
     pub device: u32,
+}
+
+// How many entries an owner holds, and the index of the lowest free one, which is the table's size if there is none.
+pub struct Occupancy {
+    pub held: usize,
+    pub free: usize,
 }
 
 // The identifiers of the slave that was found, or a refusal's number and zeros.
@@ -40,10 +47,43 @@ pub fn search_start(size: usize) -> usize
     size
 }
 
-pub fn has_address(entry: Slave, address: u16) -> bool
-    ensures { λ r. ⌜ r ≡ eqb (entry .address) address ⌝ }
+// An owner's entry with an address.
+pub fn has_address(entry: Slave, owner: bool, address: u16) -> bool
+    ensures { λ r. ⌜ r ≡ hasAddress owner address entry ⌝ }
 {
+    if entry.owner != owner {
+        return false;
+    }
     entry.address == address
+}
+
+// The occupancy of no entries.
+pub fn count_none(size: usize) -> Occupancy
+    ensures { λ r. ⌜ r ≡ occupancyNone size ⌝ }
+{
+    Occupancy {
+        held: 0,
+        free: size,
+    }
+}
+
+// The occupancy of the entries from an index on, from that of the entries behind it.
+pub fn count_entry(behind: Occupancy, index: usize, entry: Slave, owner: bool) -> Occupancy
+    ensures { λ r. ⌜ r ≡ occupancyWith owner index entry behind ⌝ }
+{
+    if entry.address == 0 {
+        return Occupancy {
+            held: behind.held,
+            free: index,
+        };
+    }
+    if entry.owner != owner {
+        return behind;
+    }
+    Occupancy {
+        held: std::num::wrapping_add_usize(behind.held, 1),
+        free: behind.free,
+    }
 }
 
 // Refusal 14: no slave's address.
@@ -68,6 +108,7 @@ fn none() -> Slave
 {
     Slave {
         address: 0,
+        owner: false,
         product: 0,
         device: 0,
     }
@@ -83,6 +124,16 @@ fn is_absent(size: usize, at: usize, address: u16) -> bool
     size <= at
 }
 
+// Refusal 16: the owner holds 24 entries or more, or no entry is free.
+fn is_full(size: usize, occupancy: Occupancy) -> bool
+    ensures { λ r. ⌜ r ≡ isFull size occupancy ⌝ }
+{
+    if 24 <= occupancy.held {
+        return true;
+    }
+    size <= occupancy.free
+}
+
 // Refusal 15 for a new address: it is another one, and stands somewhere.
 fn is_taken(size: usize, other: usize, from: u16, to: u16) -> bool
     ensures { λ r. ⌜ r ≡ isTaken size other from to ⌝ }
@@ -93,8 +144,8 @@ fn is_taken(size: usize, other: usize, from: u16, to: u16) -> bool
     other < size
 }
 
-fn enter_refusal(size: usize, at: usize, free: usize, slave: Slave) -> u32
-    ensures { λ r. ⌜ r ≡ first (enterLines size at free slave) ⌝ }
+fn enter_refusal(size: usize, at: usize, occupancy: Occupancy, slave: Slave) -> u32
+    ensures { λ r. ⌜ r ≡ first (enterLines size at occupancy slave) ⌝ }
 {
     if size != 32 {
         return 24;
@@ -108,7 +159,7 @@ fn enter_refusal(size: usize, at: usize, free: usize, slave: Slave) -> u32
     if at < size {
         return 15;
     }
-    if size <= free {
+    if is_full(size, occupancy) {
         return 16;
     }
     0
@@ -162,11 +213,16 @@ fn planned(number: u32, size: usize, index: usize, entry: Slave) -> Plan
     }
 }
 
-// The slave in place of the free entry.
-pub fn enter(size: usize, at: usize, free: usize, slave: Slave) -> Plan
-    ensures { λ r. ⌜ r ≡ enterPlan size at free slave ⌝ }
+// The slave in place of the lowest free entry.
+pub fn enter(size: usize, at: usize, occupancy: Occupancy, slave: Slave) -> Plan
+    ensures { λ r. ⌜ r ≡ enterPlan size at occupancy slave ⌝ }
 {
-    planned(enter_refusal(size, at, free, slave), size, free, slave)
+    planned(
+        enter_refusal(size, at, occupancy, slave),
+        size,
+        occupancy.free,
+        slave,
+    )
 }
 
 // The identifiers of the entry where the address stands.
@@ -194,6 +250,7 @@ fn with_address(old: Slave, address: u16) -> Slave
 {
     Slave {
         address,
+        owner: old.owner,
         product: old.product,
         device: old.device,
     }

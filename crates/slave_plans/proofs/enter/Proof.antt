@@ -15,7 +15,7 @@ planned-requires c κs = search needs
 returns : tie.Need-returns
 returns c =
     let a = c .before .before .args in
-    c .planned .ensures ∙ ap (λ (number : ℕ). planBy number (a .size) (a .free) (a .slave)) (c .before .enter-refusal .ensures)
+    c .planned .ensures ∙ ap (λ (number : ℕ). planBy number (a .size) (a .occupancy .free) (a .slave)) (c .before .enter-refusal .ensures)
 
 pub enter-spec : {M : Type 1} → statement M
 enter-spec = tie.close (tie.spec enter-refusal-requires planned-requires returns)

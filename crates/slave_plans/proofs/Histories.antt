@@ -1,0 +1,92 @@
+-- Request No. 8 over histories of both owners from the empty table: what an owner is answered depends on its own history and its 16s alone, it
+-- holds at most 24 entries, and with fewer than eight it isn't refused as 16.
+use Prim.Native.Nat.{ℕ, suc, _+_, _≤_, _<_}
+use native.Mathlib.Omega.{arith}
+use native.Mathlib.Decide.{ℕ-discrete}
+use mathlib.Core.Path.{_≡_, refl, sym, ap, ap₂, subst, _∙_}
+use mathlib.Core.Logic.{_≢_, inl, inr, dite}
+use mathlib.Core.Bool.{Bool, true, false, not, _&&_, Bool·beq, Bool-discrete, true≢false}
+use mathlib.Core.List.{List, [], _∷_, map}
+use lib.Dec.{eqb}
+use lib.ListN.{length, getD, set, drop}
+use Rattle.basics.specs.Choice.{choose, first}
+use Rattle.slave_id.specs.SlaveId.{tooWide}
+use Rattle.slave_plans.specs.Table.{none, empty, isFree, belongsTo, count, occupancyOf}
+use Rattle.slave_plans.specs.Answer.{notSlave, isFull, enterRefusal, foundOf, entryOf, readdressed, changeRefusal, removeRefusal}
+use Rattle.slave_plans.specs.History.{Operation, Enter, Find, Change, Remove, ownerOf, numberAlone, answerOf, tableAfter, tableFrom, answersFrom, tableOf, answersOf, with16, ownHistory}
+use Rattle.slave_plans.specs.declared.Slave.{Slave}
+use Rattle.slave_plans.specs.declared.Found.{Found}
+use Rattle.slave_plans.proofs.Entries.{by-test, belongs-exactly}
+use Rattle.slave_plans.proofs.Counts.{count-more, count-kept, count-none, count-all}
+use Rattle.slave_plans.proofs.Refusals.{Full, enter-exactly, enter-crowded, change-exactly}
+use Rattle.slave_plans.proofs.Finding.{find-17, remove-refused, finds, enter-by-finds, change-by-finds}
+use Rattle.slave_plans.proofs.Operations.{refusalOf, indexNamed, entryPut, named-inside, refused-stay, either, length-stays, changed-named, find-entered, changed-keeps, changed-once, removed-once, others-found, neighbour-found, Concerns, Once, once-empty, once-kept}
+
+-- ── every table that a history leads to
+
+pub record Reached (t : List Slave) : Type 0 where
+  pub size : length t ≡ 32
+  pub once : Once t
+  pub few : (o : Bool) → count (belongsTo o) t ≤ 24
+
+-- an entry that is put leaves each owner 24 at most
+put-few : (op : Operation) (t : List Slave) (o : Bool) → count (belongsTo o) t ≤ 24 → refusalOf op t ≡ 0 → count (belongsTo o) (set t (indexNamed op t) (entryPut op t)) ≤ 24
+put-few op t o few accepted = go op accepted
+  where
+    kept : (op : Operation) → refusalOf op t ≡ 0 → (belongsTo o (entryPut op t) ≡ true → belongsTo o (getD t (indexNamed op t) none) ≡ true)
+        → count (belongsTo o) (set t (indexNamed op t) (entryPut op t)) ≤ 24
+    kept op accepted implies = omega (arith, few, count-kept (belongsTo o) t (indexNamed op t) (entryPut op t) (named-inside op t accepted) implies)
+
+    go : (op : Operation) → refusalOf op t ≡ 0 → count (belongsTo o) (set t (indexNamed op t) (entryPut op t)) ≤ 24
+    go (Enter s) accepted =
+        by-test (belongsTo o s)
+        (λ own.
+        let fewer = subst (λ (x : Bool). count (belongsTo x) t < 24) (belongs-exactly s o .0 own .1) (enter-exactly s t .0 accepted .few) in
+        omega (arith, fewer, count-more (belongsTo o) t (indexNamed (Enter s) t) s (named-inside (Enter s) t accepted)))
+        (λ other. kept (Enter s) accepted (λ own. absurd (true≢false (sym own ∙ other))))
+    go (Find o′ a) accepted = kept (Find o′ a) accepted (λ own. own)
+    go (Change o′ from to) accepted =
+        let named = changed-named o′ from to t accepted in
+        kept (Change o′ from to) accepted
+        (λ own.
+        belongs-exactly (entryOf o′ from t) o .1
+        (λ z. change-exactly o′ from to t .0 accepted .some (sym (named .1) ∙ z), belongs-exactly (readdressed to (entryOf o′ from t)) o .0 own .1))
+    go (Remove o′ a) accepted = kept (Remove o′ a) accepted (λ own. absurd (belongs-exactly none o .0 own .0 refl))
+
+pub reached-empty : Reached empty
+unfolding count belongsTo isFree choose
+reached-empty = record { size = refl; once = once-empty; few = λ o. omega arith }
+
+pub reached-after : (op : Operation) {t : List Slave} → Reached t → Reached (tableAfter op t)
+reached-after op {t} r = record {
+  size = length-stays op t ∙ r .size;
+  once = once-kept op t (r .once);
+  few = λ o. either op t (λ (l : List Slave). count (belongsTo o) l ≤ 24) (r .few o) (λ accepted. put-few op t o (r .few o) accepted);
+}
+
+reached-from : (t : List Slave) → Reached t → (h : List Operation) → Reached (tableFrom t h)
+unfolding tableFrom
+reached-from t r [] = r
+reached-from t r (op ∷ h) = reached-from (tableAfter op t) (reached-after op r) h
+
+pub reached : (h : List Operation) → Reached (tableOf h)
+reached h = reached-from empty reached-empty h
+
+-- "An owner may hold at most 24 entries"
+pub at-most-24 : (h : List Operation) (o : Bool) → count (belongsTo o) (tableOf h) ≤ 24
+at-most-24 h o = reached h .few o
+
+-- "only 16 may depend on the neighbour, and never for an owner with fewer than eight entries"
+pub room-for-eight : (h : List Operation) (s : Slave) → count (belongsTo (s .owner)) (tableOf h) < 8 → enterRefusal s (tableOf h) ≢ 16
+room-for-eight h s few e = go (enter-crowded s t e)
+  where
+    t : List Slave
+    t = tableOf h
+
+    crowded : (o : Bool) → count (belongsTo o) t < 8 → count isFree t ≡ 0 → ⊥
+    crowded true few no-free = omega (arith, few, no-free, count-all t, reached h .few false, reached h .size)
+    crowded false few no-free = omega (arith, few, no-free, count-all t, reached h .few true, reached h .size)
+
+    go : Full (s .owner) t → ⊥
+    go (inl many) = omega (arith, many, few)
+    go (inr none-free) = crowded (s .owner) few (count-none isFree t none-free)
