@@ -3,14 +3,16 @@
 Where a function changes, run scripts/walks/write. What is new to all of them is added here: a type, a callee, the module of a definition.
 """
 
-from model import contract, number, struct, walk
+from model import boolean, contract, number, struct, walk
 
 # The types that the walked functions pass. crates/slaves/proofs/Structs.antt has the lemmas of a struct, and one for each field that is read.
 TYPES = {
+    "bool": boolean(),
     "u16": number("u16", "w16"),
     "u32": number("u32", "w32"),
     "usize": number("usize", "w64"),
-    "Slave": struct("Slave", {"address": "u16", "product": "u32", "device": "u32"}),
+    "Slave": struct("Slave", {"address": "u16", "owner": "bool", "product": "u32", "device": "u32"}),
+    "Occupancy": struct("Occupancy", {"held": "usize", "free": "usize"}),
     "Found": struct("Found", {"number": "u32", "product": "u32", "device": "u32"}),
     "Plan": struct("Plan", {"number": "u32", "index": "usize", "entry": "Slave"}),
 }
@@ -19,8 +21,9 @@ TYPES = {
 DEFINITIONS = {
     "Table": "none",
     "Answer": "enterRefusal entered foundBy foundOf changeRefusal changed removeRefusal removed",
-    "Plan": "indexSought enterPlan changePlan removePlan",
+    "Plan": "indexSought occupancyCounted enterPlan changePlan removePlan",
     "declared.Slave": "Slave",
+    "declared.Occupancy": "Occupancy",
     "declared.Found": "Found",
     "declared.Plan": "Plan",
 }
@@ -36,6 +39,7 @@ CALLEES = [
     contract(path)
     for path in [
         "slaves::seek",
+        "slaves::count",
         "slaves::entry_at",
         "slaves::put",
         "slave_plans::enter",
@@ -47,10 +51,10 @@ CALLEES = [
 
 # `because` is why the contract holds: of a call's result r, e-r is what the callee ensures of it.
 WALKS = [
-    walk("slaves::enter", because="enter-meets {slave} {table} e-at e-free e-plan e-put"),
-    walk("slaves::find", because="find-meets {address} {table} e-at e-entry e-result"),
-    walk("slaves::change_address", because="change-meets {from} {to} {table} e-at e-entry e-other e-plan e-put"),
-    walk("slaves::remove", because="remove-meets {address} {table} e-at e-plan e-put"),
+    walk("slaves::enter", because="enter-meets {slave} {table} e-at e-occupancy e-plan e-put"),
+    walk("slaves::find", because="find-meets {owner} {address} {table} e-at e-entry e-result"),
+    walk("slaves::change_address", because="change-meets {owner} {from} {to} {table} e-at e-entry e-other e-plan e-put"),
+    walk("slaves::remove", because="remove-meets {owner} {address} {table} e-at e-plan e-put"),
     walk("vbus::slave_tables::vbus_slave_enter", because="e-result"),
     walk("vbus::slave_tables::vbus_slave_find", because="e-result"),
     walk("vbus::slave_tables::vbus_slave_change_address", because="e-result"),

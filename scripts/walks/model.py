@@ -42,6 +42,20 @@ def number(name: str, width: str) -> Type:
     )
 
 
+def boolean() -> Type:
+    """A yes or no."""
+    return Type(
+        row="bool",
+        mir="tyBool",
+        denotation="Bool",
+        machine="vbool",
+        values="bool-vals",
+        tells="bool-tells",
+        makes="(bool-makes 𝓤 H A W)",
+        lawful="bool-lawful 𝓤 H A W",
+    )
+
+
 def struct(name: str, fields: dict[str, str]) -> Type:
     """A struct whose lemmas are in Structs.antt, under its own name in small letters."""
     low = name.lower()
@@ -178,13 +192,13 @@ def argument(text: str) -> Argument:
 
 
 def call(text: str, result: str) -> Call:
-    """From `seek(table, address)`."""
+    """From `seek(table, owner, address)`."""
     name, _, arguments = text.partition("(")
     return Call(name, [argument(each) for each in arguments.removesuffix(")").split(",")], result)
 
 
 def statement(text: str) -> Call:
-    """From `let at = seek(table, address)` or a call alone."""
+    """From `let at = seek(table, owner, address)` or a call alone."""
     name, _, right = text.removeprefix("let ").rpartition(" = ")
     return call(right, name)
 

@@ -41,6 +41,11 @@ module _ (test : Slave → Bool) where
   pub count-kept : (t : List Slave) (i : ℕ) (e : Slave) → i < length t → (test e ≡ true → test (getD t i none) ≡ true) → count test (set t i e) ≤ count test t
   count-kept t i e inside implies = omega (arith, count-set t i e inside, one-less (test e) (test (getD t i none)) implies)
 
+  pub count-most : (t : List Slave) → count test t ≤ length t
+  unfolding count
+  count-most [] = omega arith
+  count-most (e ∷ t) = omega (arith, one-most (test e), count-most t)
+
   pub count-none : (t : List Slave) → Nowhere test t → count test t ≡ 0
   unfolding count choose
   count-none [] n = refl

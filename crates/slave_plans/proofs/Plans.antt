@@ -31,13 +31,13 @@ module _ (owner : Bool) (entry : Slave) where
   same = Bool·beq (entry .owner) owner
 
   module _ (address : ℕ) where
-    pub address-other : not same ≡ true → false ≡ hasAddress owner address entry
+    pub address-own : same ≡ true → eqb (entry .address) address ≡ hasAddress owner address entry
     unfolding hasAddress
-    address-other other = rw (not-true same other)
+    address-own own = rw own
 
-    pub address-own : not same ≡ false → eqb (entry .address) address ≡ hasAddress owner address entry
+    pub address-other : same ≡ false → false ≡ hasAddress owner address entry
     unfolding hasAddress
-    address-own own = rw (not-false same own)
+    address-other other = rw other
 
   module _ (index : ℕ) (behind : Occupancy) where
     pub count-free : entry .address ≡ 0 → record { held = behind .held; free = index } ≡ occupancyWith owner index entry behind

@@ -51,10 +51,10 @@ pub fn search_start(size: usize) -> usize
 pub fn has_address(entry: Slave, owner: bool, address: u16) -> bool
     ensures { λ r. ⌜ r ≡ hasAddress owner address entry ⌝ }
 {
-    if entry.owner != owner {
-        return false;
+    if entry.owner == owner {
+        return entry.address == address;
     }
-    entry.address == address
+    false
 }
 
 // The occupancy of no entries.

@@ -10,10 +10,11 @@ use lib.Dec.{eqb}
 use lib.ListN.{length, getD, set}
 use borrow.Author.Tests.{eq-eqb, ne-eqb, eqb-true}
 use Rattle.basics.specs.Choice.{choose}
-use Rattle.slave_plans.specs.Table.{none, indexOf}
+use Rattle.slave_plans.specs.Table.{none, indexOf, occupancyOf}
 use Rattle.slave_plans.specs.Answer.{tableWith, enterRefusal, entered, foundBy, foundOf, entryOf, changeRefusal, readdressed, changed, removeRefusal, removed}
-use Rattle.slave_plans.specs.Plan.{indexSought, planBy, enterPlan, changePlan, removePlan}
+use Rattle.slave_plans.specs.Plan.{indexSought, occupancyCounted, planBy, enterPlan, changePlan, removePlan}
 use Rattle.slave_plans.specs.declared.Slave.{Slave}
+use Rattle.slave_plans.specs.declared.Occupancy.{Occupancy}
 use Rattle.slave_plans.specs.declared.Found.{Found}
 use Rattle.slave_plans.specs.declared.Plan.{Plan}
 use Rattle.slaves.proofs.Structs.{set-past}
@@ -33,16 +34,16 @@ module _ {p : Plan} {after : List Slave} (refusal index : ℕ) (entry : Slave) (
   carried-out : p ≡ planBy refusal (length table) index entry → (p .number ≡ refusal) × (after ≡ tableWith refusal index entry table)
   carried-out is = by-test (eqb refusal 0) refl is
 
--- ── what was sought
+-- ── what was seen
 
 -- in a table of a wrong length no entry was looked at, and none need be: it is refused as 24 whatever was seen
 module _ (size : ℕ) (wrong : size ≢ 32) where
   abbrev refused : Plan
   refused = record { number = 24; index = size; entry = none }
 
-  enter-unseen : (at free : ℕ) (slave : Slave) → enterPlan size at free slave ≡ refused
+  enter-unseen : (at : ℕ) (occupancy : Occupancy) (slave : Slave) → enterPlan size at occupancy slave ≡ refused
   unfolding choose
-  enter-unseen at free slave = rw (ne-eqb size 32 wrong)
+  enter-unseen at occupancy slave = rw (ne-eqb size 32 wrong)
 
   find-unseen : (at : ℕ) (entry : Slave) (address : ℕ) → foundBy size at entry address ≡ record { number = 24; product = 0; device = 0 }
   unfolding foundBy choose
@@ -56,56 +57,74 @@ module _ (size : ℕ) (wrong : size ≢ 32) where
   unfolding choose
   remove-unseen at address = rw (ne-eqb size 32 wrong)
 
--- in a table of 32 entries an address was sought where it stands
-sought : (address : ℕ) (table : List Slave) → length table ≡ 32 → indexSought address table ≡ indexOf address table
-unfolding choose
-sought address table right = rw (eq-eqb (length table) 32 right)
+-- in a table of 32 entries an address was sought where it stands, and all entries were counted
+module _ (owner : Bool) (table : List Slave) (right : length table ≡ 32) where
+  sought : (address : ℕ) → indexSought owner address table ≡ indexOf owner address table
+  unfolding choose
+  sought address = rw (eq-eqb (length table) 32 right)
+
+  counted : occupancyCounted owner table ≡ occupancyOf owner table
+  unfolding choose
+  counted = rw (eq-eqb (length table) 32 right)
 
 -- ── what each function saw, planned and put, as its walk has it at the end
 
-pub enter-meets : {at free : ℕ} {p : Plan} {after : List Slave} (slave : Slave) (table : List Slave)
-    → at ≡ indexSought (slave .address) table → free ≡ indexSought 0 table → p ≡ enterPlan (length table) at free slave
+pub enter-meets : {at : ℕ} {occupancy : Occupancy} {p : Plan} {after : List Slave} (slave : Slave) (table : List Slave)
+    → at ≡ indexSought (slave .owner) (slave .address) table → occupancy ≡ occupancyCounted (slave .owner) table
+    → p ≡ enterPlan (length table) at occupancy slave
     → after ≡ set table (p .index) (p .entry) → (p .number ≡ enterRefusal slave table) × (after ≡ entered slave table)
 unfolding enterRefusal
-enter-meets {at} {free} slave table at-is free-is p-is put =
-    carried-out (enterRefusal slave table) (indexOf 0 table) slave table put
-    (p-is ∙ dite (ℕ-discrete (length table) 32)
-    (λ right. ap₂ (λ (at free : ℕ). enterPlan (length table) at free slave) (at-is ∙ sought (slave .address) table right) (free-is ∙ sought 0 table right))
-    (λ wrong. enter-unseen (length table) wrong at free slave ∙ sym (enter-unseen (length table) wrong (indexOf (slave .address) table) (indexOf 0 table) slave)))
-
--- an entry that was seen where an address stands
-seen : {at : ℕ} {entry : Slave} (address : ℕ) (table : List Slave)
-    → at ≡ indexOf address table → entry ≡ getD table at none → entry ≡ entryOf address table
-seen address table at-is entry-is = entry-is ∙ ap (λ (k : ℕ). getD table k none) at-is
-
-pub find-meets : {at : ℕ} {entry : Slave} {r : Found} (address : ℕ) (table : List Slave)
-    → at ≡ indexSought address table → entry ≡ getD table at none → r ≡ foundBy (length table) at entry address → r ≡ foundOf address table
-find-meets {at} {entry} address table at-is entry-is r-is =
-    r-is ∙ dite (ℕ-discrete (length table) 32)
-    (λ right.
-    let at-right = at-is ∙ sought address table right in
-    ap₂ (λ (at : ℕ) (entry : Slave). foundBy (length table) at entry address) at-right (seen address table at-right entry-is))
-    (λ wrong. find-unseen (length table) wrong at entry address ∙ sym (find-unseen (length table) wrong (indexOf address table) (entryOf address table) address))
-
-pub change-meets : {at other : ℕ} {entry : Slave} {p : Plan} {after : List Slave} (from to : ℕ) (table : List Slave)
-    → at ≡ indexSought from table → entry ≡ getD table at none → other ≡ indexSought to table → p ≡ changePlan (length table) at entry other from to
-    → after ≡ set table (p .index) (p .entry) → (p .number ≡ changeRefusal from to table) × (after ≡ changed from to table)
-unfolding changeRefusal
-change-meets {at} {other} {entry} from to table at-is entry-is other-is p-is put =
-    carried-out (changeRefusal from to table) (indexOf from table) (readdressed to (entryOf from table)) table put
+enter-meets {at} {occupancy} slave table at-is occupancy-is p-is put =
+    let owner = slave .owner in
+    carried-out (enterRefusal slave table) (occupancyOf owner table .free) slave table put
     (p-is ∙ dite (ℕ-discrete (length table) 32)
     (λ right.
-    let at-right = at-is ∙ sought from table right in
-    let entry-seen = seen from table at-right entry-is in
-    λ i. changePlan (length table) (at-right i) (entry-seen i) ((other-is ∙ sought to table right) i) from to)
-    (λ wrong. change-unseen (length table) wrong at entry other from to ∙ sym (change-unseen (length table) wrong (indexOf from table) (entryOf from table) (indexOf to table) from to)))
+    ap₂ (λ (at : ℕ) (occupancy : Occupancy). enterPlan (length table) at occupancy slave)
+    (at-is ∙ sought owner table right (slave .address)) (occupancy-is ∙ counted owner table right))
+    (λ wrong.
+    enter-unseen (length table) wrong at occupancy slave
+    ∙ sym (enter-unseen (length table) wrong (indexOf owner (slave .address) table) (occupancyOf owner table) slave)))
 
-pub remove-meets : {at : ℕ} {p : Plan} {after : List Slave} (address : ℕ) (table : List Slave)
-    → at ≡ indexSought address table → p ≡ removePlan (length table) at address
-    → after ≡ set table (p .index) (p .entry) → (p .number ≡ removeRefusal address table) × (after ≡ removed address table)
-unfolding removeRefusal
-remove-meets {at} address table at-is p-is put =
-    carried-out (removeRefusal address table) (indexOf address table) none table put
-    (p-is ∙ dite (ℕ-discrete (length table) 32)
-    (λ right. ap (λ (at : ℕ). removePlan (length table) at address) (at-is ∙ sought address table right))
-    (λ wrong. remove-unseen (length table) wrong at address ∙ sym (remove-unseen (length table) wrong (indexOf address table) address)))
+module _ (owner : Bool) where
+  -- an entry that was seen where an address stands
+  seen : {at : ℕ} {entry : Slave} (address : ℕ) (table : List Slave)
+      → at ≡ indexOf owner address table → entry ≡ getD table at none → entry ≡ entryOf owner address table
+  seen address table at-is entry-is = entry-is ∙ ap (λ (k : ℕ). getD table k none) at-is
+
+  pub find-meets : {at : ℕ} {entry : Slave} {r : Found} (address : ℕ) (table : List Slave)
+      → at ≡ indexSought owner address table → entry ≡ getD table at none → r ≡ foundBy (length table) at entry address
+      → r ≡ foundOf owner address table
+  find-meets {at} {entry} address table at-is entry-is r-is =
+      r-is ∙ dite (ℕ-discrete (length table) 32)
+      (λ right.
+      let at-right = at-is ∙ sought owner table right address in
+      ap₂ (λ (at : ℕ) (entry : Slave). foundBy (length table) at entry address) at-right (seen address table at-right entry-is))
+      (λ wrong.
+      find-unseen (length table) wrong at entry address
+      ∙ sym (find-unseen (length table) wrong (indexOf owner address table) (entryOf owner address table) address))
+
+  pub change-meets : {at other : ℕ} {entry : Slave} {p : Plan} {after : List Slave} (from to : ℕ) (table : List Slave)
+      → at ≡ indexSought owner from table → entry ≡ getD table at none → other ≡ indexSought owner to table
+      → p ≡ changePlan (length table) at entry other from to → after ≡ set table (p .index) (p .entry)
+      → (p .number ≡ changeRefusal owner from to table) × (after ≡ changed owner from to table)
+  unfolding changeRefusal
+  change-meets {at} {other} {entry} from to table at-is entry-is other-is p-is put =
+      carried-out (changeRefusal owner from to table) (indexOf owner from table) (readdressed to (entryOf owner from table)) table put
+      (p-is ∙ dite (ℕ-discrete (length table) 32)
+      (λ right.
+      let at-right = at-is ∙ sought owner table right from in
+      let entry-seen = seen from table at-right entry-is in
+      λ i. changePlan (length table) (at-right i) (entry-seen i) ((other-is ∙ sought owner table right to) i) from to)
+      (λ wrong.
+      change-unseen (length table) wrong at entry other from to
+      ∙ sym (change-unseen (length table) wrong (indexOf owner from table) (entryOf owner from table) (indexOf owner to table) from to)))
+
+  pub remove-meets : {at : ℕ} {p : Plan} {after : List Slave} (address : ℕ) (table : List Slave)
+      → at ≡ indexSought owner address table → p ≡ removePlan (length table) at address
+      → after ≡ set table (p .index) (p .entry) → (p .number ≡ removeRefusal owner address table) × (after ≡ removed owner address table)
+  unfolding removeRefusal
+  remove-meets {at} address table at-is p-is put =
+      carried-out (removeRefusal owner address table) (indexOf owner address table) none table put
+      (p-is ∙ dite (ℕ-discrete (length table) 32)
+      (λ right. ap (λ (at : ℕ). removePlan (length table) at address) (at-is ∙ sought owner table right address))
+      (λ wrong. remove-unseen (length table) wrong at address ∙ sym (remove-unseen (length table) wrong (indexOf owner address table) address)))

@@ -14,17 +14,20 @@ use ghost.Atoms.{Atoms}
 use types.Kit.{Given}
 use denote.RattleType.{RattleType}
 use denote.Laws.{Is, Tells, Copy, Makes, Lawful}
-use denote.Plain.{uint-vals}
-use denote.Builtin.{u16, u32, usize}
+use denote.Plain.{uint-vals, bool-vals}
+use denote.Builtin.{u16, u32, usize, bool}
 use denote.Memory.{pointee}
 use denote.Index.{place, place-is}
 use denote.Struct.Laws as laws
 use Rattle.slave_plans.specs.Table.{none}
 use Rattle.slave_plans.specs.declared.Slave.{Slave}
+use Rattle.slave_plans.specs.declared.Occupancy.{Occupancy}
 use Rattle.slave_plans.specs.declared.Found.{Found}
 use Rattle.slave_plans.specs.declared.Plan.{Plan}
 use Rattle.slave_plans.proofs.Slave as slave
 use Rattle.slave_plans.proofs.Slave.Laws as slave′
+use Rattle.slave_plans.proofs.Occupancy as occupancy
+use Rattle.slave_plans.proofs.Occupancy.Laws as occupancy′
 use Rattle.slave_plans.proofs.Found as found
 use Rattle.slave_plans.proofs.Found.Laws as found′
 use Rattle.slave_plans.proofs.Plan as plan
@@ -61,11 +64,39 @@ module _ {M : Type 1} (𝓤 : URA M) (H : Heap 𝓤) (A : Atoms 𝓤) where
   pub slave-copy : Given 𝓤 H A → Copy 𝓤 H A slave-row
   slave-copy W = laws.copy slave.the-type slave′.the-copy 𝓤 H A W
 
-pub slave-address : (s : Slave) → Is slave-row s (slave-vals s) → Is u16 (s .address) (uint-vals w16 (s .address))
-slave-address s is = laws.owed slave.the-type slave′.the-laws s _ is .0
+module _ (s : Slave) (is : Is slave-row s (slave-vals s)) where
+  pub slave-address : Is u16 (s .address) (uint-vals w16 (s .address))
+  slave-address = laws.owed slave.the-type slave′.the-laws s _ is .0
+
+  pub slave-owner : Is bool (s .owner) (bool-vals (s .owner))
+  slave-owner = laws.owed slave.the-type slave′.the-laws s _ is .1 .0
 
 pub is-none : Is slave-row none (slave-vals none)
-is-none = laws.owes slave.the-type slave′.the-laws none ((refl, lit< tt), ((refl, lit< tt), ((refl, lit< tt), tt)))
+is-none = laws.owes slave.the-type slave′.the-laws none ((refl, lit< tt), (refl, ((refl, lit< tt), ((refl, lit< tt), tt))))
+
+-- ── Occupancy
+
+abbrev pub occupancy-row : RattleType
+occupancy-row = occupancy.the-row
+
+abbrev pub occupancy-mir : Ty
+occupancy-mir = occupancy′.mir
+
+abbrev pub occupancy-val : Occupancy → Val
+occupancy-val = occupancy′.lowered
+
+abbrev pub occupancy-vals : Occupancy → List Val
+occupancy-vals = laws.vals occupancy.the-type occupancy′.the-laws
+
+pub occupancy-tells : Tells occupancy-row (Is occupancy-row) occupancy-vals
+occupancy-tells = laws.tells occupancy.the-type occupancy′.the-laws
+
+module _ {M : Type 1} (𝓤 : URA M) (H : Heap 𝓤) (A : Atoms 𝓤) where
+  pub occupancy-makes : Makes 𝓤 H A occupancy-row (Is occupancy-row)
+  occupancy-makes = laws.makes occupancy.the-type occupancy′.the-plain 𝓤 H A
+
+  pub occupancy-lawful : Given 𝓤 H A → Lawful 𝓤 H A occupancy-row
+  occupancy-lawful W = laws.lawful occupancy.the-type occupancy′.the-laws 𝓤 H A W
 
 -- ── Found
 
