@@ -1,3 +1,4 @@
 pub mod Questions
 pub mod Samples
+pub mod Slaves
 pub mod Table

@@ -156,3 +156,11 @@ answer (changeSlave o from to t) = changeRefusal o from to t ∷ tableTold (chan
 answer (removeSlave o a t) = removeRefusal o a t ∷ tableTold (removed o a t)
 answer (answered o history) = answersTold (answersOf o history)
 answer (verdict v) = number v ∷ []
+
+-- a question and the answer that the papers give
+abbrev pub Row : Type 0
+Row = Question × List ℕ
+
+-- a refused writing
+abbrev pub refused : ℕ → ℕ → List ℕ
+refused number room = number ∷ 0 ∷ untouched room

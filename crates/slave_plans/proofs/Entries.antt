@@ -1,11 +1,11 @@
 -- Laws of what is asked of an entry: whether it is free, an owner's, or an owner's with an address.
 use Prim.Native.Nat.{ℕ}
-use mathlib.Core.Path.{_≡_, refl, sym, ap, _∙_}
+use mathlib.Core.Path.{_≡_, refl}
 use mathlib.Core.Logic.{_≢_, _↔_}
-use mathlib.Core.Bool.{Bool, true, false, not, _&&_, Bool·beq, true≢false, false≢true, not-eq-not, and-eq-true-iff}
+use mathlib.Core.Bool.{Bool, true, false, not, Bool·beq, true≢false, false≢true, not-eq-not, and-eq-true-iff}
 use lib.Dec.{eqb}
 use borrow.Author.Tests.{eq-eqb, ne-eqb, eqb-true, eqb-false, not-true}
-use Rattle.slave_plans.specs.Table.{none, isFree, belongsTo, hasAddress}
+use Rattle.slave_plans.specs.Table.{isFree, belongsTo, hasAddress}
 use Rattle.slave_plans.specs.declared.Slave.{Slave}
 
 -- what holds whether a test is true or false
@@ -49,10 +49,6 @@ module _ (e : Slave) where
       λ (own, at). rw (same-exactly (e .owner) owner .1 own, eq-eqb _ _ at),
     )
 
--- an entry with another address, or another owner's
-module _ (owner : Bool) (a : ℕ) (e : Slave) where
-  pub other-address : e .address ≢ a → hasAddress owner a e ≡ false
-  other-address other = false-if _ (λ t. other (address-exactly e owner a .0 t .1))
-
-  pub other-owner : e .owner ≢ owner → hasAddress owner a e ≡ false
-  other-owner other = false-if _ (λ t. other (address-exactly e owner a .0 t .0))
+-- an entry with another address
+pub other-address : (owner : Bool) (a : ℕ) (e : Slave) → e .address ≢ a → hasAddress owner a e ≡ false
+other-address owner a e other = false-if _ (λ t. other (address-exactly e owner a .0 t .1))

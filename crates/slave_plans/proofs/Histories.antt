@@ -1,26 +1,21 @@
 -- Request No. 8 over histories of both owners from the empty table: what an owner is answered depends on its own history and its 16s alone, it
 -- holds at most 24 entries, and with fewer than eight it isn't refused as 16.
-use Prim.Native.Nat.{ℕ, suc, _+_, _≤_, _<_}
+use Prim.Native.Nat.{_≤_, _<_}
 use native.Mathlib.Omega.{arith}
-use native.Mathlib.Decide.{ℕ-discrete}
-use mathlib.Core.Path.{_≡_, refl, sym, ap, ap₂, subst, _∙_}
-use mathlib.Core.Logic.{_≢_, inl, inr, dite}
-use mathlib.Core.Bool.{Bool, true, false, not, _&&_, Bool·beq, Bool-discrete, true≢false}
-use mathlib.Core.List.{List, [], _∷_, map}
-use lib.Dec.{eqb}
-use lib.ListN.{length, getD, set, drop}
-use Rattle.basics.specs.Choice.{choose, first}
-use Rattle.slave_id.specs.SlaveId.{tooWide}
-use Rattle.slave_plans.specs.Table.{none, empty, isFree, belongsTo, count, occupancyOf}
-use Rattle.slave_plans.specs.Answer.{notSlave, isFull, enterRefusal, foundOf, entryOf, readdressed, changeRefusal, removeRefusal}
-use Rattle.slave_plans.specs.History.{Operation, Enter, Find, Change, Remove, ownerOf, numberAlone, answerOf, tableAfter, tableFrom, answersFrom, tableOf, answersOf, with16, ownHistory}
+use mathlib.Core.Path.{_≡_, refl, sym, subst, _∙_}
+use mathlib.Core.Logic.{_≢_, inl, inr}
+use mathlib.Core.Bool.{Bool, true, false, true≢false}
+use mathlib.Core.List.{List, [], _∷_}
+use lib.ListN.{length, getD, set}
+use Rattle.basics.specs.Choice.{choose}
+use Rattle.slave_plans.specs.Table.{none, empty, isFree, belongsTo, count}
+use Rattle.slave_plans.specs.Answer.{enterRefusal, entryOf, readdressed}
+use Rattle.slave_plans.specs.History.{Operation, Enter, Find, Change, Remove, tableAfter, tableFrom, tableOf}
 use Rattle.slave_plans.specs.declared.Slave.{Slave}
-use Rattle.slave_plans.specs.declared.Found.{Found}
 use Rattle.slave_plans.proofs.Entries.{by-test, belongs-exactly}
 use Rattle.slave_plans.proofs.Counts.{count-more, count-kept, count-none, count-all}
 use Rattle.slave_plans.proofs.Refusals.{Full, enter-exactly, enter-crowded, change-exactly}
-use Rattle.slave_plans.proofs.Finding.{find-17, remove-refused, finds, enter-by-finds, change-by-finds}
-use Rattle.slave_plans.proofs.Operations.{refusalOf, indexNamed, entryPut, named-inside, refused-stay, either, length-stays, changed-named, find-entered, changed-keeps, changed-once, removed-once, others-found, neighbour-found, Concerns, Once, once-empty, once-kept}
+use Rattle.slave_plans.proofs.Operations.{refusalOf, indexNamed, entryPut, named-inside, either, length-stays, changed-named, Once, once-empty, once-kept}
 
 -- ── every table that a history leads to
 

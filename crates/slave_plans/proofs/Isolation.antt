@@ -4,7 +4,7 @@ use Prim.Native.Nat.{ℕ}
 use native.Mathlib.Decide.{ℕ-discrete}
 use mathlib.Core.Path.{_≡_, refl, sym, ap, ap₂, subst, _∙_}
 use mathlib.Core.Logic.{_≢_, inl, inr, dite}
-use mathlib.Core.Bool.{Bool, true, false, not, _&&_, Bool·beq, Bool-discrete, true≢false}
+use mathlib.Core.Bool.{Bool, true, false, not, _&&_, Bool-discrete, true≢false}
 use mathlib.Core.List.{List, [], _∷_, map}
 use native.Mathlib.Omega.{arith}
 use lib.Dec.{eqb}

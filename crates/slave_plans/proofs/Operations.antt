@@ -15,10 +15,9 @@ use Rattle.slave_plans.specs.Table.{none, empty, isFree, hasAddress, low
 use Rattle.slave_plans.specs.Answer.{foundOf, tableWith, entryOf, readdressed, enterRefusal, entered, changeRefusal, changed, removeRefusal, removed}
 use Rattle.slave_plans.specs.History.{Operation, Enter, Find, Change, Remove, ownerOf, numberAlone, answerOf, tableAfter}
 use Rattle.slave_plans.specs.declared.Slave.{Slave}
-use Rattle.slave_plans.specs.declared.Found.{Found}
 use Rattle.slave_plans.proofs.Addresses.{slave-nonzero}
-use Rattle.slave_plans.proofs.Entries.{by-test, false-if, free-exactly, address-exactly, other-address, other-owner}
-use Rattle.slave_plans.proofs.Indices.{Lowest, Nowhere, lowest-here, lowest-is, set-other}
+use Rattle.slave_plans.proofs.Entries.{false-if, free-exactly, address-exactly, other-address}
+use Rattle.slave_plans.proofs.Indices.{Lowest, Nowhere, lowest-here, set-other}
 use Rattle.slave_plans.proofs.Refusals.{held-inside, enter-exactly, enter-length, change-exactly, change-length, remove-exactly}
 use Rattle.slave_plans.proofs.Finding.{identifiers, find-exactly, find-lowest, find-length, find-missing, find-same, find-zero, remove-refused}
 

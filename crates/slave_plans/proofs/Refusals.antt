@@ -6,7 +6,7 @@ use native.Mathlib.Decide.{ℕ-discrete, decLt}
 use mathlib.Core.Logic.{_≢_, _↔_, _⊎_, inl, inr, dite}
 use mathlib.Core.Bool.{Bool, true, false, not, not-eq-not, true≢false}
 use mathlib.Core.List.{List, [], _∷_}
-use lib.Dec.{eqb, leb, ltb}
+use lib.Dec.{eqb, ltb}
 use lib.ListN.{length}
 use borrow.Author.Tests.{lt-ltb, eq-eqb, ne-eqb, eqb-true, eqb-false, not-false, lt-leb, le-leb, le-ltb, leb-true, leb-false, ltb-false}
 use Rattle.basics.specs.Choice.{choose, first}
