@@ -38,15 +38,16 @@
 
 /* The version of this library, not of a stream. */
 #define VBUS_VERSION_MAJOR 0
-#define VBUS_VERSION_MINOR 7
+#define VBUS_VERSION_MINOR 8
 #define VBUS_VERSION_PATCH 0
 
 /* The longest payload and the longest stream, both those of a packet with 127 frames. */
 #define VBUS_MAX_PAYLOAD 508
 #define VBUS_MAX_STREAM 772
 
-/* The entries of a table of slaves. */
+/* The entries of a table of slaves, and the most that one of its two owners may hold. */
 #define VBUS_SLAVES 32
+#define VBUS_SLAVES_PER_OWNER 24
 
 #ifdef __cplusplus
 extern "C" {
@@ -76,9 +77,9 @@ enum vbus_refusal {
     VBUS_POSITION_OVERFLOW = 12,    /* a receiver's position would pass the largest 64-bit number */
     VBUS_PARTIAL_ELEMENT = 13,      /* a section ends within an element */
     VBUS_NOT_SLAVE_ADDRESS = 14,    /* no slave has an address like that */
-    VBUS_ADDRESS_TAKEN = 15,        /* the table already has an entry with that address */
-    VBUS_TABLE_FULL = 16,           /* no entry of the table is free */
-    VBUS_NO_SUCH_ADDRESS = 17,      /* no entry of the table has that address */
+    VBUS_ADDRESS_TAKEN = 15,        /* the owner already has an entry with that address */
+    VBUS_TABLE_FULL = 16,           /* the owner holds VBUS_SLAVES_PER_OWNER entries or more, or none is free */
+    VBUS_NO_SUCH_ADDRESS = 17,      /* the owner has no entry with that address */
     VBUS_NOT_SLAVE_ID = 18,         /* no slave ID response, or an identifier that needs more than 24 bits */
     VBUS_WRONG_TABLE_LENGTH = 24    /* the table hasn't VBUS_SLAVES entries */
 };
@@ -163,9 +164,10 @@ typedef struct {
     uint32_t serial; /* consecutive number, 0 to 131071: device % 131072 */
 } vbus_slave_id;
 
-/* An entry of a table of slaves. It is free exactly if its address is 0. */
+/* An entry of a table of slaves. It is free exactly if its address is 0; it is nobody's then, whatever `owner` says. */
 typedef struct {
     uint16_t address;
+    bool owner; /* which of the table's two owners it is of */
     uint32_t product, device; /* identifiers of 24 bits */
 } vbus_slave;
 
@@ -320,37 +322,50 @@ vbus_written vbus_write_slave_id(uint16_t destination, uint16_t source, uint32_t
 /*
  * A table of slaves is an array of VBUS_SLAVES entries of the caller's; all zero bytes are an empty one. Any n but
  * VBUS_SLAVES is refused, and then nothing of the table is read or written, whatever n says. Each call changes at most
- * the one entry that it names, and after a refusal every entry is what it was. Calls never make an address stand in two
- * entries; in a table brought in that has one twice, the entry with the lower index counts. Compare entries field by
- * field: the bytes between the fields may hold anything.
+ * the one entry that it names, and after a refusal every entry is what it was. Compare entries field by field: the byte
+ * between the fields may hold anything.
+ *
+ * Two owners use the table, false and true: two plants, say, whose buses end in one box. An entry that isn't free is of
+ * the owner that it names. A call is about one owner and sees that owner's entries alone, so that both may have a slave
+ * with the same address. Calls never make an address stand in two entries of an owner; in a table brought in that has
+ * one twice, the owner's entry with the lower index counts. An owner may hold VBUS_SLAVES_PER_OWNER entries; one that
+ * was brought in with more keeps them, and gets no further one.
+ * In a table that was empty and that these calls alone have changed, an owner with fewer than 8 entries always gets one
+ * more: its neighbour can't hold all the rest. Only whether an owner with 8 to 23 is refused as VBUS_TABLE_FULL depends
+ * on the neighbour: after the same calls, of which the same were refused so, an owner finds the same and meets the same
+ * other refusals, whatever its neighbour does.
+ *
+ * `owner` is a bool: its byte must be 0 or 1, as whatever C stores in it is. No function can look at a bool that is
+ * neither, so whoever brings a table in as bytes, from flash say, must see to that before handing it over.
+ *
  * The refusals, of which each function names its own; `number`, or the number that is answered, is 0 where there is none:
  *   VBUS_WRONG_TABLE_LENGTH (24): n isn't VBUS_SLAVES
  *   VBUS_NOT_SLAVE_ADDRESS (14): bits 14 to 12 of the (new) address aren't 2, bit 7 or 15 is set, or bits 11 to 4 are all
  *     0. A slave has 0x2010 to 0x201F, for example, or 0x2100, and none below 0x2010 or above 0x2F7F
  *   VBUS_NOT_SLAVE_ID (18): product or device is above 0xFFFFFF
- *   VBUS_ADDRESS_TAKEN (15): an entry has the (new) address
- *   VBUS_TABLE_FULL (16): no entry is free
- *   VBUS_NO_SUCH_ADDRESS (17): no entry has the (old) address, or it is 0
+ *   VBUS_ADDRESS_TAKEN (15): an entry of the owner has the (new) address
+ *   VBUS_TABLE_FULL (16): the owner holds VBUS_SLAVES_PER_OWNER entries or more, or no entry of the table is free
+ *   VBUS_NO_SUCH_ADDRESS (17): no entry of the owner has the (old) address, or it is 0
  */
 
-/* Enters a slave as the free entry with the lowest index.
+/* Enters a slave, for the owner that it names, as the free entry with the lowest index.
  *   VBUS_WRONG_TABLE_LENGTH (24), VBUS_NOT_SLAVE_ADDRESS (14), VBUS_NOT_SLAVE_ID (18), VBUS_ADDRESS_TAKEN (15),
  *   VBUS_TABLE_FULL (16) */
 uint32_t vbus_slave_enter(vbus_slave *table, size_t n, vbus_slave slave);
 
-/* The identifiers of the slave with an address.
+/* The identifiers of the owner's slave with an address.
  *   VBUS_WRONG_TABLE_LENGTH (24), VBUS_NO_SUCH_ADDRESS (17) */
-vbus_slave_found vbus_slave_find(const vbus_slave *table, size_t n, uint16_t address);
+vbus_slave_found vbus_slave_find(const vbus_slave *table, size_t n, bool owner, uint16_t address);
 
-/* Gives the slave with address `from` the address `to`; it keeps its identifiers. To the address that it has, it succeeds
- * and changes nothing.
+/* Gives the owner's slave with address `from` the address `to`; it keeps its owner and its identifiers. To the address
+ * that it has, it succeeds and changes nothing.
  *   VBUS_WRONG_TABLE_LENGTH (24), VBUS_NOT_SLAVE_ADDRESS (14) for `to`, VBUS_NO_SUCH_ADDRESS (17) for `from`,
  *   VBUS_ADDRESS_TAKEN (15) for `to`, unless it is `from` */
-uint32_t vbus_slave_change_address(vbus_slave *table, size_t n, uint16_t from, uint16_t to);
+uint32_t vbus_slave_change_address(vbus_slave *table, size_t n, bool owner, uint16_t from, uint16_t to);
 
-/* Removes the slave with an address: every field of its entry is 0 afterwards.
+/* Removes the owner's slave with an address: every field of its entry is 0 afterwards, so its owner false.
  *   VBUS_WRONG_TABLE_LENGTH (24), VBUS_NO_SUCH_ADDRESS (17) */
-uint32_t vbus_slave_remove(vbus_slave *table, size_t n, uint16_t address);
+uint32_t vbus_slave_remove(vbus_slave *table, size_t n, bool owner, uint16_t address);
 
 #ifdef __cplusplus
 }
