@@ -1,4 +1,4 @@
-//! The slave ID response, and a table of slaves.
+//! The slave ID response, and a table of the slaves of two owners.
 
 use super::*;
 
@@ -7,6 +7,9 @@ const RESPONSE: u16 = 0x23;
 
 /// How many entries a table has.
 const TABLE: usize = 32;
+
+/// How many of them an owner may hold.
+const SHARE: usize = 24;
 
 /// The device identifier is the week times this plus the consecutive number.
 const WEEK: u32 = 131_072;
@@ -20,12 +23,23 @@ pub struct SlaveId {
     pub serial: u32,
 }
 
-/// An entry of a table; with address 0 it is free.
+/// An entry of a table; with address 0 it is free, and nobody's.
 #[derive(Clone, Copy, PartialEq, Eq, Debug, Default)]
 pub struct Slave {
     pub address: u16,
+    pub owner: bool,
     pub product: u32,
     pub device: u32,
+}
+
+impl Slave {
+    fn is_free(&self) -> bool {
+        self.address == 0
+    }
+
+    fn is_of(&self, owner: bool) -> bool {
+        !self.is_free() && self.owner == owner
+    }
 }
 
 #[derive(Clone, Copy, PartialEq, Eq, Debug, Default)]
@@ -110,25 +124,28 @@ fn check_length(table: &[Slave]) -> Result<(), u32> {
     }
 }
 
-/// The index of the lowest entry with an address; that of the lowest free one for 0.
+/// The index of the owner's lowest entry with an address. A free entry is nobody's: 0 is never found.
 #[inline]
-fn lowest(table: &[Slave], address: u16) -> Option<usize> {
-    table.iter().position(|slave| slave.address == address)
+fn index_of(table: &[Slave], owner: bool, address: u16) -> Option<usize> {
+    table
+        .iter()
+        .position(|slave| slave.is_of(owner) && slave.address == address)
 }
 
-/// The index of the slave with an address, which 0 is not.
-fn index_of(table: &[Slave], address: u16) -> Result<usize, u32> {
-    match address {
-        0 => Err(NO_SUCH_ADDRESS),
-        _ => lowest(table, address).ok_or(NO_SUCH_ADDRESS),
+/// The owner has no entry with the address yet.
+fn check_unused(table: &[Slave], owner: bool, address: u16) -> Result<(), u32> {
+    match index_of(table, owner, address) {
+        None => Ok(()),
+        Some(_) => Err(ADDRESS_IN_USE),
     }
 }
 
-/// No entry has the address yet.
-fn check_unused(table: &[Slave], address: u16) -> Result<(), u32> {
-    match lowest(table, address) {
-        None => Ok(()),
-        Some(_) => Err(ADDRESS_IN_USE),
+/// The lowest free entry, unless the owner has its share already.
+fn free_entry(table: &[Slave], owner: bool) -> Result<usize, u32> {
+    let held = table.iter().filter(|slave| slave.is_of(owner)).count();
+    match table.iter().position(Slave::is_free) {
+        Some(index) if held < SHARE => Ok(index),
+        _ => Err(NO_ENTRY_LEFT),
     }
 }
 
@@ -136,7 +153,7 @@ fn number(answer: Result<(), u32>) -> u32 {
     answer.err().unwrap_or(0)
 }
 
-/// Puts a slave into the lowest free entry; the answer is the number.
+/// Puts a slave into the lowest free entry, for its owner; the answer is the number.
 pub fn slave_enter(table: &mut [Slave], slave: Slave) -> u32 {
     number(enter(table, slave))
 }
@@ -147,19 +164,19 @@ fn enter(table: &mut [Slave], slave: Slave) -> Result<(), u32> {
     if too_wide(slave.product, slave.device) {
         return Err(NOT_A_SLAVE_ID);
     }
-    check_unused(table, slave.address)?;
-    let free = lowest(table, 0).ok_or(NO_FREE_ENTRY)?;
-    table[free] = slave;
+    check_unused(table, slave.owner, slave.address)?;
+    let index = free_entry(table, slave.owner)?;
+    table[index] = slave;
     Ok(())
 }
 
-/// The identifiers of the slave with that address.
-pub fn slave_find(table: &[Slave], address: u16) -> SlaveFound {
-    match check_length(table).and_then(|()| index_of(table, address)) {
-        Ok(index) => SlaveFound {
+/// The identifiers of the owner's slave with that address.
+pub fn slave_find(table: &[Slave], owner: bool, address: u16) -> SlaveFound {
+    match find(table, owner, address) {
+        Ok(slave) => SlaveFound {
             number: 0,
-            product: table[index].product,
-            device: table[index].device,
+            product: slave.product,
+            device: slave.device,
         },
         Err(number) => SlaveFound {
             number,
@@ -168,30 +185,36 @@ pub fn slave_find(table: &[Slave], address: u16) -> SlaveFound {
     }
 }
 
-/// Gives a slave another address, or the one that it has; the answer is the number.
-pub fn slave_change_address(table: &mut [Slave], from: u16, to: u16) -> u32 {
-    number(change_address(table, from, to))
+fn find(table: &[Slave], owner: bool, address: u16) -> Result<Slave, u32> {
+    check_length(table)?;
+    let index = index_of(table, owner, address).ok_or(NO_SUCH_ADDRESS)?;
+    Ok(table[index])
 }
 
-fn change_address(table: &mut [Slave], from: u16, to: u16) -> Result<(), u32> {
+/// Gives a slave of the owner another address, or the one that it has; the answer is the number.
+pub fn slave_change_address(table: &mut [Slave], owner: bool, from: u16, to: u16) -> u32 {
+    number(change_address(table, owner, from, to))
+}
+
+fn change_address(table: &mut [Slave], owner: bool, from: u16, to: u16) -> Result<(), u32> {
     check_length(table)?;
     check_address(to)?;
-    let index = index_of(table, from)?;
+    let index = index_of(table, owner, from).ok_or(NO_SUCH_ADDRESS)?;
     if to != from {
-        check_unused(table, to)?;
+        check_unused(table, owner, to)?;
         table[index].address = to;
     }
     Ok(())
 }
 
-/// Zeroes the entry of the slave with that address; the answer is the number.
-pub fn slave_remove(table: &mut [Slave], address: u16) -> u32 {
-    number(remove(table, address))
+/// Zeroes the entry of the owner's slave with that address; the answer is the number.
+pub fn slave_remove(table: &mut [Slave], owner: bool, address: u16) -> u32 {
+    number(remove(table, owner, address))
 }
 
-fn remove(table: &mut [Slave], address: u16) -> Result<(), u32> {
+fn remove(table: &mut [Slave], owner: bool, address: u16) -> Result<(), u32> {
     check_length(table)?;
-    let index = index_of(table, address)?;
+    let index = index_of(table, owner, address).ok_or(NO_SUCH_ADDRESS)?;
     table[index] = Slave::default();
     Ok(())
 }

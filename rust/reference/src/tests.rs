@@ -798,26 +798,41 @@ fn order_when_writing_a_slave_id() {
     }
 }
 
+/// The owner of the tests that aren't about owners; the other one is `!OWNER`.
+const OWNER: bool = true;
+
 fn slave(address: u16) -> Slave {
     Slave {
         address,
+        owner: OWNER,
         product: 0x10_0000 + u32::from(address),
         device: 0x20_0000 + u32::from(address),
     }
 }
 
-/// 32 slaves, from 0x2100 to 0x210F and from 0x2300 to 0x230F.
+fn others(address: u16) -> Slave {
+    Slave {
+        owner: !OWNER,
+        device: 0x30_0000 + u32::from(address),
+        ..slave(address)
+    }
+}
+
+/// 16 slaves of each owner, from 0x2100 to 0x210F and, the other's, from 0x2300 to 0x230F.
 fn full_table() -> [Slave; 32] {
-    std::array::from_fn(|i| slave([0x2100, 0x2300][i / 16] + i as u16 % 16))
+    std::array::from_fn(|i| match i as u16 {
+        i @ 0..16 => slave(0x2100 + i),
+        i => others(0x2300 + i - 16),
+    })
 }
 
 /// All four operations on the table, with the numbers given.
 fn numbers(table: &mut [Slave], slave: Slave, from: u16) -> [u32; 4] {
     [
         slave_enter(table, slave),
-        slave_find(table, slave.address).number,
-        slave_change_address(table, from, slave.address),
-        slave_remove(table, slave.address),
+        slave_find(table, slave.owner, slave.address).number,
+        slave_change_address(table, slave.owner, from, slave.address),
+        slave_remove(table, slave.owner, slave.address),
     ]
 }
 
@@ -866,7 +881,7 @@ fn addresses_of_slaves() {
             "{address:04X}"
         );
         table[0] = slave(0x2F00);
-        let changed = slave_change_address(&mut table, 0x2F00, address);
+        let changed = slave_change_address(&mut table, OWNER, 0x2F00, address);
         assert_eq!(changed, number, "{address:04X}");
     }
 }
@@ -909,15 +924,15 @@ fn order_when_changing() {
     let mut table = full_table();
     table[8].address = 0x2008;
     let before = table;
-    assert_eq!(slave_change_address(&mut table, 0x2400, 0x2008), 14);
-    assert_eq!(slave_change_address(&mut table, 0x2008, 0x2008), 14);
-    assert_eq!(slave_change_address(&mut table, 0x2400, 0x2101), 17);
-    assert_eq!(slave_change_address(&mut table, 0x2400, 0x2400), 17);
-    assert_eq!(slave_change_address(&mut table, 0, 0x2400), 17);
-    assert_eq!(slave_change_address(&mut table, 0x2100, 0x2101), 15);
-    assert_eq!(slave_change_address(&mut table, 0x2100, 0x2100), 0);
+    assert_eq!(slave_change_address(&mut table, OWNER, 0x2400, 0x2008), 14);
+    assert_eq!(slave_change_address(&mut table, OWNER, 0x2008, 0x2008), 14);
+    assert_eq!(slave_change_address(&mut table, OWNER, 0x2400, 0x2101), 17);
+    assert_eq!(slave_change_address(&mut table, OWNER, 0x2400, 0x2400), 17);
+    assert_eq!(slave_change_address(&mut table, OWNER, 0, 0x2400), 17);
+    assert_eq!(slave_change_address(&mut table, OWNER, 0x2100, 0x2101), 15);
+    assert_eq!(slave_change_address(&mut table, OWNER, 0x2100, 0x2100), 0);
     assert_eq!(table, before);
-    assert_eq!(slave_change_address(&mut table, 0x2008, 0x2400), 0);
+    assert_eq!(slave_change_address(&mut table, OWNER, 0x2008, 0x2400), 0);
     let mut expected = before;
     expected[8].address = 0x2400;
     assert_eq!(table, expected);
@@ -929,13 +944,13 @@ fn order_when_changing() {
 fn finding_and_removing() {
     let mut table = full_table();
     table[5] = Slave {
-        address: 0xFFFF,
         product: u32::MAX,
         device: 1 << 31,
+        ..slave(0xFFFF)
     };
     table[6].address = 0;
     let before = table;
-    let found = slave_find(&table, 0xFFFF);
+    let found = slave_find(&table, OWNER, 0xFFFF);
     assert_eq!(
         (found.number, found.product, found.device),
         (0, u32::MAX, 1 << 31)
@@ -945,11 +960,11 @@ fn finding_and_removing() {
             number: 17,
             ..SlaveFound::default()
         };
-        assert_eq!(slave_find(&table, absent), refused);
-        assert_eq!(slave_remove(&mut table, absent), 17);
+        assert_eq!(slave_find(&table, OWNER, absent), refused);
+        assert_eq!(slave_remove(&mut table, OWNER, absent), 17);
     }
     assert_eq!(table, before);
-    assert_eq!(slave_remove(&mut table, 0xFFFF), 0);
+    assert_eq!(slave_remove(&mut table, OWNER, 0xFFFF), 0);
     let mut expected = before;
     expected[5] = Slave::default();
     assert_eq!(table, expected);
@@ -959,16 +974,118 @@ fn finding_and_removing() {
 #[test]
 fn an_address_in_two_entries() {
     let mut table = full_table();
-    table[20].address = table[3].address;
+    table[20] = Slave {
+        product: 1,
+        ..table[3]
+    };
     let mut expected = table;
-    assert_eq!(slave_find(&table, 0x2103).product, table[3].product);
-    assert_eq!(slave_change_address(&mut table, 0x2103, 0x2103), 0);
+    assert_eq!(slave_find(&table, OWNER, 0x2103).product, table[3].product);
+    assert_eq!(slave_change_address(&mut table, OWNER, 0x2103, 0x2103), 0);
     assert_eq!(table, expected);
-    assert_eq!(slave_change_address(&mut table, 0x2103, 0x2400), 0);
+    assert_eq!(slave_change_address(&mut table, OWNER, 0x2103, 0x2400), 0);
     expected[3].address = 0x2400;
     assert_eq!(table, expected);
-    assert_eq!(slave_find(&table, 0x2103).product, table[20].product);
-    assert_eq!(slave_remove(&mut table, 0x2103), 0);
+    assert_eq!(slave_find(&table, OWNER, 0x2103).product, table[20].product);
+    assert_eq!(slave_remove(&mut table, OWNER, 0x2103), 0);
     expected[20] = Slave::default();
     assert_eq!(table, expected);
+}
+
+/// Both owners have the address: each finds, changes and removes its own entry, whichever is lower.
+#[test]
+fn the_same_address_under_both_owners() {
+    for [own, other] in [[3, 20], [20, 3]] {
+        let mut table = full_table();
+        table[own] = slave(0x2400);
+        table[other] = others(0x2400);
+        let before = table;
+        for (owner, entry) in [(OWNER, own), (!OWNER, other)] {
+            let found = slave_find(&table, owner, 0x2400);
+            assert_eq!((found.number, found.device), (0, table[entry].device));
+            table = before;
+            assert_eq!(slave_change_address(&mut table, owner, 0x2400, 0x2401), 0);
+            let mut expected = before;
+            expected[entry].address = 0x2401;
+            assert_eq!(table, expected);
+            table = before;
+            assert_eq!(slave_remove(&mut table, owner, 0x2400), 0);
+            expected[entry] = Slave::default();
+            assert_eq!(table, expected);
+            assert_eq!(slave_find(&table, owner, 0x2400).number, 17);
+            assert_eq!(slave_find(&table, !owner, 0x2400).number, 0);
+            table = before;
+        }
+    }
+}
+
+/// What the neighbour has is neither found nor in the way.
+#[test]
+fn the_neighbours_addresses() {
+    let mut table = full_table();
+    assert_eq!(slave_find(&table, OWNER, 0x2300).number, 17);
+    assert_eq!(slave_remove(&mut table, OWNER, 0x2300), 17);
+    assert_eq!(slave_change_address(&mut table, OWNER, 0x2300, 0x2400), 17);
+    assert_eq!(table, full_table());
+    assert_eq!(slave_change_address(&mut table, OWNER, 0x2100, 0x2300), 0);
+    assert_eq!(slave_remove(&mut table, OWNER, 0x2101), 0);
+    assert_eq!(slave_enter(&mut table, slave(0x2301)), 0);
+    let mut expected = full_table();
+    expected[0].address = 0x2300;
+    expected[1] = slave(0x2301);
+    assert_eq!(table, expected);
+}
+
+/// `own` entries of the owner and `other` of its neighbour; all others are free, and say that they are
+/// the owner's.
+fn shared(own: usize, other: usize) -> [Slave; 32] {
+    std::array::from_fn(|i| match i {
+        _ if i < own => slave(0x2100 + i as u16 % 16 + 0x100 * (i as u16 / 16)),
+        _ if i < own + other => others(0x2100 + i as u16 % 16),
+        _ => slave(0),
+    })
+}
+
+/// 16 exactly with 24 or more of the owner's, or without a free entry; 15 comes before it.
+#[test]
+fn how_many_an_owner_may_hold() {
+    for own in 0..=32 {
+        for other in 0..=32 - own {
+            let number = if own >= 24 || own + other == 32 {
+                16
+            } else {
+                0
+            };
+            let mut table = shared(own, other);
+            let mut expected = table;
+            assert_eq!(slave_enter(&mut table, slave(0x2400)), number);
+            if number == 0 {
+                expected[own + other] = slave(0x2400);
+            }
+            assert_eq!(table, expected, "{own} and {other}");
+            if own > 0 {
+                assert_eq!(slave_enter(&mut table, slave(0x2100)), 15);
+            }
+        }
+    }
+}
+
+/// From the empty table on: 24 of the one and 8 of the other, then the 25th and the ninth.
+#[test]
+fn two_owners_fill_a_table() {
+    let mut table = [Slave::default(); 32];
+    for slave in &shared(24, 8) {
+        assert_eq!(slave_enter(&mut table, *slave), 0);
+    }
+    assert_eq!(table, shared(24, 8));
+    assert_eq!(slave_enter(&mut table, slave(0x2400)), 16);
+    assert_eq!(slave_enter(&mut table, others(0x2400)), 16);
+    // Another's free entry is no use to an owner that has its share.
+    assert_eq!(slave_remove(&mut table, !OWNER, 0x210F), 0);
+    assert_eq!(slave_enter(&mut table, slave(0x2400)), 16);
+    assert_eq!(slave_enter(&mut table, others(0x2400)), 0);
+    assert_eq!(slave_enter(&mut table, others(0x2401)), 16);
+    assert_eq!(slave_remove(&mut table, OWNER, 0x2100), 0);
+    assert_eq!(slave_enter(&mut table, others(0x2401)), 0);
+    assert_eq!(table[0], others(0x2401));
+    assert_eq!(slave_enter(&mut table, slave(0x2100)), 16);
 }

@@ -12,14 +12,18 @@
 //!
 //! A pointer must be valid for as many bytes, or entries of a table, as the count beside it says (an
 //! array's for its length), for reading where const, for writing where mut, and a receiver's memory
-//! and a table for both; a table's must be aligned. With count 0 it may be anything, null too. What is
-//! written must not overlap another buffer of the call. Nothing else is asked: any number may be passed.
+//! and a table for both; a table's must be aligned, and the owners in it bools: 0 or 1 as bytes. With
+//! count 0 it may be anything, null too. What is written must not overlap another buffer of the call.
+//! Nothing else is asked: any number may be passed.
 
 #![no_std]
 #![deny(missing_docs)]
 
 /// The entries of a table of slaves. Any other count is refused.
 pub const SLAVES: usize = 32;
+
+/// The entries that one of the two owners of a table may hold.
+pub const SLAVES_PER_OWNER: usize = 24;
 
 /// Everything of a record but its payload.
 #[repr(C)]
@@ -181,12 +185,14 @@ pub struct SlaveId {
     pub serial: u32,
 }
 
-/// An entry of a table of slaves. It is free exactly if its address is 0.
+/// An entry of a table of slaves. It is free exactly if its address is 0, and nobody's then.
 #[repr(C)]
 #[derive(Clone, Copy, PartialEq, Eq, Debug, Default)]
 pub struct Slave {
     /// The slave's address.
     pub address: u16,
+    /// Which of the table's two owners it is of.
+    pub owner: bool,
     /// The product identifier, of 24 bits.
     pub product: u32,
     /// The device identifier, of 24 bits.
@@ -297,15 +303,21 @@ extern "C" {
         room: usize,
     ) -> Written;
 
-    /// Enters a slave as the free entry with the lowest index.
+    /// Enters a slave, for the owner that it names, as the free entry with the lowest index.
     pub fn vbus_slave_enter(table: *mut Slave, n: usize, slave: Slave) -> u32;
 
-    /// The identifiers of the slave with an address.
-    pub fn vbus_slave_find(table: *const Slave, n: usize, address: u16) -> SlaveFound;
+    /// The identifiers of the owner's slave with an address.
+    pub fn vbus_slave_find(table: *const Slave, n: usize, owner: bool, address: u16) -> SlaveFound;
 
-    /// Gives the slave with address `from` the address `to`.
-    pub fn vbus_slave_change_address(table: *mut Slave, n: usize, from: u16, to: u16) -> u32;
+    /// Gives the owner's slave with address `from` the address `to`.
+    pub fn vbus_slave_change_address(
+        table: *mut Slave,
+        n: usize,
+        owner: bool,
+        from: u16,
+        to: u16,
+    ) -> u32;
 
-    /// Removes the slave with an address.
-    pub fn vbus_slave_remove(table: *mut Slave, n: usize, address: u16) -> u32;
+    /// Removes the owner's slave with an address.
+    pub fn vbus_slave_remove(table: *mut Slave, n: usize, owner: bool, address: u16) -> u32;
 }

@@ -77,9 +77,9 @@ numbered! {
         12 PositionOverflow "the chunk would take the position past the largest 64-bit number";
         13 PartialElement "the section ends within an element: it has type 0x0A and an odd number of frames";
         14 NotSlaveAddress "no slave has an address like that: bits 14 to 12 are not 2, bit 7 or 15 is set, or bits 11 to 4 are all 0";
-        15 AddressTaken "the table already has an entry with that address";
-        16 TableFull "no entry of the table is free";
-        17 NoSuchAddress "no entry of the table has that address";
+        15 AddressTaken "the owner already has an entry with that address";
+        16 TableFull "the owner holds 24 entries or more, or no entry of the table is free";
+        17 NoSuchAddress "the owner has no entry with that address";
         18 NotSlaveId "the record is no slave ID response, or an identifier needs more than 24 bits";
         24 WrongTableLength "the table does not have 32 entries";
     }

@@ -27,8 +27,8 @@
 //!
 //! Why a 0xAA, with which every stream begins, gave no record is told by [`faults`].
 //!
-//! Who a slave is that answered is told by [`read_slave_id`]; a [`SlaveTable`] keeps the slaves by
-//! their addresses.
+//! Who a slave is that answered is told by [`read_slave_id`]; a [`SlaveTable`] keeps the slaves of
+//! two owners by their addresses.
 //!
 //! The archive is taken from the folder that the environment variable `VBUS_LIB_DIR` names at
 //! build time, else from `target/staticlib` at the repository's top, where `./build vbus` puts it.
@@ -76,6 +76,9 @@ pub const MAX_STREAM: usize = 772;
 
 /// The entries of a table of slaves.
 pub const SLAVES: usize = vbus_sys::SLAVES;
+
+/// The entries that one of the two owners of a table of slaves may hold.
+pub const SLAVES_PER_OWNER: usize = vbus_sys::SLAVES_PER_OWNER;
 
 fn check(number: u32) -> Result<(), Error> {
     match number {

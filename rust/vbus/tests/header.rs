@@ -176,6 +176,8 @@ fn definitions_are_those_of_the_header() {
     assert_eq!(defined("VBUS_MAX_PAYLOAD"), vbus::MAX_PAYLOAD.to_string());
     assert_eq!(defined("VBUS_MAX_STREAM"), vbus::MAX_STREAM.to_string());
     assert_eq!(defined("VBUS_SLAVES"), vbus::SLAVES.to_string());
+    let per_owner = vbus::SLAVES_PER_OWNER.to_string();
+    assert_eq!(defined("VBUS_SLAVES_PER_OWNER"), per_owner);
 }
 
 /// The words that begin with `vbus_` and stand before a parenthesis.
