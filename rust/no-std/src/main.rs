@@ -128,22 +128,50 @@ fn slaves() {
 
     let mut table = EMPTY.clone();
     let (product, device) = (id.product, id.device);
-    let slave = |address| Slave {
+    let slave = |owner, address| Slave {
         address,
+        owner,
         product,
         device,
     };
-    table.enter(slave(0x2010)).unwrap();
-    assert_eq!(table.enter(slave(0x2010)), Err(Error::AddressTaken));
-    assert_eq!(table.enter(slave(0x2000)), Err(Error::NotSlaveAddress));
-    table.change_address(0x2010, 0x2011).unwrap();
-    assert_eq!(table.find(0x2011), Ok(id.identifiers()));
-    assert!(table.slaves().eq([slave(0x2011)]));
-    table.remove(0x2011).unwrap();
-    let error = table.find(0x2011).unwrap_err();
-    let text = "no entry of the table has that address";
+    for owner in [false, true] {
+        table.enter(slave(owner, 0x2010)).unwrap();
+        let again = table.enter(slave(owner, 0x2010));
+        assert_eq!(again, Err(Error::AddressTaken));
+        let everyone = table.enter(slave(owner, 0x2000));
+        assert_eq!(everyone, Err(Error::NotSlaveAddress));
+    }
+    table.change_address(true, 0x2010, 0x2011).unwrap();
+    assert_eq!(table.find(true, 0x2011), Ok(id.identifiers()));
+    assert_eq!(table.find(false, 0x2010), Ok(id.identifiers()));
+    let both = [slave(false, 0x2010), slave(true, 0x2011)];
+    assert!(table.slaves().eq(both));
+    table.remove(true, 0x2011).unwrap();
+    let error = table.find(true, 0x2010).unwrap_err();
+    let text = "the owner has no entry with that address";
     assert_eq!(Line::of(error).text(), text);
+    table.remove(false, 0x2010).unwrap();
     assert_eq!(table, EMPTY);
+    shares(slave);
+}
+
+/// An owner gets so many entries, its neighbour those that are left.
+fn shares(slave: impl Fn(bool, u16) -> Slave) {
+    let mut table = SlaveTable::new();
+    let shares = [
+        (true, vbus::SLAVES_PER_OWNER),
+        (false, vbus::SLAVES - vbus::SLAVES_PER_OWNER),
+    ];
+    for (owner, share) in shares {
+        let mut addresses = (0x2100..0x2180).step_by(4);
+        for address in addresses.by_ref().take(share) {
+            table.enter(slave(owner, address)).unwrap();
+        }
+        let address = addresses.next().unwrap();
+        let error = table.enter(slave(owner, address)).unwrap_err();
+        let text = "the owner holds 24 entries or more, or no entry of the table is free";
+        assert_eq!(Line::of(error).text(), text);
+    }
 }
 
 /// A line of text without a heap.

@@ -10,12 +10,20 @@ const ID: Identifiers = Identifiers {
     device: 17 * 131_072 + 116_406,
 };
 
-fn slave(address: u16) -> Slave {
+/// The owner of the tests that aren't about owners; the other one is `!OWNER`.
+const OWNER: bool = true;
+
+fn slave_of(owner: bool, address: u16) -> Slave {
     Slave {
         address,
+        owner,
         product: u32::from(address) + 1,
-        device: u32::from(address) + 2,
+        device: 2 * u32::from(address) + u32::from(owner),
     }
+}
+
+fn slave(address: u16) -> Slave {
+    slave_of(OWNER, address)
 }
 
 /// The address of the slave number `number`, each with a group of its own.
@@ -23,15 +31,22 @@ fn address(number: usize) -> u16 {
     [0x2010, 0x2100][number / 7 % 2] + 0x10 * (number % 7) as u16 + 0x200 * (number / 14) as u16
 }
 
-/// The addresses of a full table.
-fn addresses() -> [u16; SLAVES] {
-    std::array::from_fn(address)
+/// The slaves of a full table: the owner's as many as it may hold, and its neighbour's.
+fn slaves() -> [Slave; SLAVES] {
+    std::array::from_fn(|number| {
+        let owner = if number < SLAVES_PER_OWNER {
+            OWNER
+        } else {
+            !OWNER
+        };
+        slave_of(owner, address(number))
+    })
 }
 
 fn full() -> SlaveTable {
     let mut table = SlaveTable::new();
-    for address in addresses() {
-        assert_eq!(table.enter(slave(address)), Ok(()));
+    for slave in slaves() {
+        assert_eq!(table.enter(slave), Ok(()));
     }
     table
 }
@@ -121,19 +136,25 @@ fn writing() {
 #[test]
 fn entering() {
     let mut table = full();
-    let expected = addresses().map(slave);
+    let expected = slaves();
     assert_eq!(entries(&table), expected);
     assert!(table.slaves().eq(expected));
     for entry in expected {
-        assert_eq!(table.find(entry.address), Ok(entry.identifiers()));
+        let found = table.find(entry.owner, entry.address);
+        assert_eq!(found, Ok(entry.identifiers()));
     }
-    // The lowest free entry is taken.
+    // The lowest free entry is taken, whosever it was.
     for index in [20, 3, 31] {
-        assert_eq!(table.remove(expected[index].address), Ok(()));
+        let Slave { owner, address, .. } = expected[index];
+        assert_eq!(table.remove(owner, address), Ok(()));
     }
-    for (address, index) in [(0x2F7F, 3), (0x201F, 20), (0x207F, 31)] {
-        assert_eq!(table.enter(slave(address)), Ok(()));
-        assert_eq!(entries(&table)[index], slave(address));
+    for (owner, address, index) in [
+        (!OWNER, 0x2F7F, 3),
+        (OWNER, 0x201F, 20),
+        (OWNER, 0x207F, 31),
+    ] {
+        assert_eq!(table.enter(slave_of(owner, address)), Ok(()));
+        assert_eq!(entries(&table)[index], slave_of(owner, address));
     }
     refused(&mut table, Error::TableFull, |table| {
         table.enter(slave(0x2F70))
@@ -143,12 +164,11 @@ fn entering() {
 #[test]
 fn order_when_entering() {
     let wide = |address| Slave {
-        address,
         product: 1 << 24,
-        device: 0,
+        ..slave(address)
     };
     // Also an address that no slave has can stand in a table that was brought in.
-    let mut brought = addresses().map(slave);
+    let mut brought = slaves();
     brought[5].address = 0x2005;
     let mut table = SlaveTable::from(brought);
     refused(&mut table, Error::NotSlaveAddress, |table| {
@@ -183,45 +203,45 @@ fn addresses_of_slaves() {
 #[test]
 fn changing_an_address() {
     let mut table = full();
-    let mut expected = addresses().map(slave);
+    let mut expected = slaves();
     let (from, taken) = (expected[7].address, expected[9].address);
     refused(&mut table, Error::NotSlaveAddress, |table| {
-        table.change_address(0x2F70, 0x2000)
+        table.change_address(OWNER, 0x2F70, 0x2000)
     });
     refused(&mut table, Error::NoSuchAddress, |table| {
-        table.change_address(0x2F70, taken)
+        table.change_address(OWNER, 0x2F70, taken)
     });
     refused(&mut table, Error::NoSuchAddress, |table| {
-        table.change_address(0, 0x2F70)
+        table.change_address(OWNER, 0, 0x2F70)
     });
     refused(&mut table, Error::AddressTaken, |table| {
-        table.change_address(from, taken)
+        table.change_address(OWNER, from, taken)
     });
-    assert_eq!(table.change_address(from, from), Ok(()));
+    assert_eq!(table.change_address(OWNER, from, from), Ok(()));
     assert_eq!(entries(&table), expected);
-    assert_eq!(table.change_address(from, 0x2F70), Ok(()));
+    assert_eq!(table.change_address(OWNER, from, 0x2F70), Ok(()));
     expected[7].address = 0x2F70;
     assert_eq!(entries(&table), expected);
-    assert_eq!(table.find(from), Err(Error::NoSuchAddress));
-    assert_eq!(table.find(0x2F70), Ok(slave(from).identifiers()));
+    assert_eq!(table.find(OWNER, from), Err(Error::NoSuchAddress));
+    assert_eq!(table.find(OWNER, 0x2F70), Ok(slave(from).identifiers()));
 }
 
 #[test]
 fn removing() {
     let mut table = full();
-    let mut expected = addresses().map(slave);
+    let mut expected = slaves();
     for address in [0, 0x2F70, 0xFFFF] {
         refused(&mut table, Error::NoSuchAddress, |table| {
-            table.remove(address)
+            table.remove(OWNER, address)
         });
     }
     let address = expected[12].address;
-    assert_eq!(table.remove(address), Ok(()));
+    assert_eq!(table.remove(OWNER, address), Ok(()));
     expected[12] = Slave::default();
     assert_eq!(entries(&table), expected);
     assert_eq!(table.slaves().count(), SLAVES - 1);
     refused(&mut table, Error::NoSuchAddress, |table| {
-        table.remove(address)
+        table.remove(OWNER, address)
     });
 }
 
@@ -231,10 +251,15 @@ fn nothing_is_found_at_address_0() {
     let mut brought = [Slave::default(); SLAVES];
     brought[4] = slave(0);
     let mut table = SlaveTable::from(brought);
-    assert_eq!(table.find(0), Err(Error::NoSuchAddress));
-    refused(&mut table, Error::NoSuchAddress, |table| table.remove(0));
+    assert_eq!(table.find(OWNER, 0), Err(Error::NoSuchAddress));
+    refused(&mut table, Error::NoSuchAddress, |table| {
+        table.remove(OWNER, 0)
+    });
     assert_eq!(table.slaves().next(), None);
-    assert_eq!(SlaveTable::default().find(0), Err(Error::NoSuchAddress));
+    assert_eq!(
+        SlaveTable::default().find(OWNER, 0),
+        Err(Error::NoSuchAddress)
+    );
 }
 
 /// Of an address that stands twice the entry with the lower index counts.
@@ -247,17 +272,105 @@ fn an_address_twice() {
         ..slave(0x2010)
     };
     let mut table = SlaveTable::from(brought);
-    assert_eq!(table.find(0x2010), Ok(brought[4].identifiers()));
-    assert_eq!(table.change_address(0x2010, 0x2011), Ok(()));
-    assert_eq!(table.find(0x2011), Ok(brought[4].identifiers()));
-    assert_eq!(table.find(0x2010), Ok(brought[9].identifiers()));
+    assert_eq!(table.find(OWNER, 0x2010), Ok(brought[4].identifiers()));
+    assert_eq!(table.change_address(OWNER, 0x2010, 0x2011), Ok(()));
+    assert_eq!(table.find(OWNER, 0x2011), Ok(brought[4].identifiers()));
+    assert_eq!(table.find(OWNER, 0x2010), Ok(brought[9].identifiers()));
     refused(&mut table, Error::AddressTaken, |table| {
-        table.change_address(0x2010, 0x2011)
+        table.change_address(OWNER, 0x2010, 0x2011)
     });
-    assert_eq!(table.remove(0x2010), Ok(()));
-    assert_eq!(table.find(0x2010), Err(Error::NoSuchAddress));
+    assert_eq!(table.remove(OWNER, 0x2010), Ok(()));
+    assert_eq!(table.find(OWNER, 0x2010), Err(Error::NoSuchAddress));
     assert!(table.slaves().eq([Slave {
         address: 0x2011,
         ..brought[4]
     }]));
+}
+
+/// Each owner sees its own slaves alone; of the same address under both, each its own.
+#[test]
+fn two_owners() {
+    let mut table = SlaveTable::new();
+    let mut expected = [Slave::default(); SLAVES];
+    expected[..4].copy_from_slice(&[
+        slave_of(false, 0x2010),
+        slave_of(true, 0x2010),
+        slave_of(true, 0x2020),
+        slave_of(false, 0x2030),
+    ]);
+    for slave in &expected[..4] {
+        assert_eq!(table.enter(*slave), Ok(()));
+    }
+    assert!(table.slaves().eq(expected[..4].iter().copied()));
+    for owner in [false, true] {
+        let found = table.find(owner, 0x2010);
+        assert_eq!(found, Ok(slave_of(owner, 0x2010).identifiers()));
+        refused(&mut table, Error::AddressTaken, |table| {
+            table.enter(slave_of(owner, 0x2010))
+        });
+    }
+    assert_eq!(table.find(false, 0x2020), Err(Error::NoSuchAddress));
+    refused(&mut table, Error::NoSuchAddress, |table| {
+        table.remove(false, 0x2020)
+    });
+    refused(&mut table, Error::NoSuchAddress, |table| {
+        table.change_address(true, 0x2030, 0x2040)
+    });
+    refused(&mut table, Error::AddressTaken, |table| {
+        table.change_address(true, 0x2020, 0x2010)
+    });
+    assert_eq!(table.change_address(true, 0x2020, 0x2030), Ok(()));
+    expected[2].address = 0x2030;
+    assert_eq!(table.remove(true, 0x2010), Ok(()));
+    expected[1] = Slave::default();
+    assert_eq!(entries(&table), expected);
+}
+
+/// The 25th of an owner is refused though entries are free, the ninth of its neighbour since none is.
+#[test]
+fn shares() {
+    let mut table = full();
+    let mut fresh =
+        (0x2F00..0x2F80).map(|address| [slave_of(OWNER, address), slave_of(!OWNER, address)]);
+    let mut next = || fresh.next().expect("there are as many addresses");
+    for slave in next() {
+        refused(&mut table, Error::TableFull, |table| table.enter(slave));
+    }
+    let neighbours = slaves()[SLAVES_PER_OWNER].address;
+    assert_eq!(table.remove(!OWNER, neighbours), Ok(()));
+    let [own, others] = next();
+    refused(&mut table, Error::TableFull, |table| table.enter(own));
+    assert_eq!(table.enter(others), Ok(()));
+    assert_eq!(table.remove(OWNER, slaves()[0].address), Ok(()));
+    let [own, others] = next();
+    assert_eq!(table.enter(others), Ok(()));
+    refused(&mut table, Error::TableFull, |table| table.enter(own));
+}
+
+/// An owner that was brought in with more than it may hold keeps them. A free entry is nobody's,
+/// whatever it says.
+#[test]
+fn shares_brought_in() {
+    for owner in [false, true] {
+        let mut brought: [Slave; SLAVES] =
+            std::array::from_fn(|number| slave_of(owner, address(number)));
+        let mut table = SlaveTable::from(brought);
+        assert_eq!(table.slaves().count(), SLAVES);
+        for entry in &mut brought[SLAVES_PER_OWNER..] {
+            assert_eq!(table.remove(owner, entry.address), Ok(()));
+            refused(&mut table, Error::TableFull, |table| {
+                table.enter(slave_of(owner, 0x2F70))
+            });
+            *entry = Slave::default();
+        }
+        assert_eq!(entries(&table), brought);
+        brought[SLAVES_PER_OWNER - 1..].fill(slave_of(owner, 0));
+        let mut table = SlaveTable::from(brought);
+        assert_eq!(table.slaves().count(), SLAVES_PER_OWNER - 1);
+        assert_eq!(table.enter(slave_of(owner, 0x2F70)), Ok(()));
+        refused(&mut table, Error::TableFull, |table| {
+            table.enter(slave_of(owner, 0x2F71))
+        });
+        assert_eq!(table.enter(slave_of(!owner, 0x2F71)), Ok(()));
+    }
 }
