@@ -9,7 +9,7 @@ use reference::{Header, Validation};
 pub type Class = (&'static str, fn(&mut Checker) -> Checked<()>);
 
 /// The classes of random cases.
-pub const CLASSES: [Class; 24] = [
+pub const CLASSES: [Class; 25] = [
     ("valid", |c| c.random_recording(recordings::recording)),
     ("one bit", |c| c.random_recording(recordings::one_bit)),
     ("one byte", |c| c.random_recording(recordings::one_byte)),
@@ -38,6 +38,7 @@ pub const CLASSES: [Class; 24] = [
     ("receive: wrapper", Checker::receive_wrapped),
     ("slave IDs", Checker::random_slave_id),
     ("slaves: runs", Checker::random_slaves),
+    ("owners: histories", Checker::random_owners),
 ];
 
 /// The records of random recordings by how many of their blocks have unused septet bits; those of a
@@ -452,7 +453,10 @@ impl Checker {
         self.every_two_entries()?;
         self.every_table_length()?;
         self.every_identifier_width()?;
+        self.every_share()?;
+        self.shares_by_calls()?;
         self.many_slaves()?;
+        self.many_owners()?;
         for byte in 0..=255 {
             self.checksum(&[byte])?;
             for at in 0..6 {

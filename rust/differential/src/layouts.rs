@@ -43,6 +43,7 @@ const SLAVE_ID: [u8; 17] = [
 
 const SLAVE: Slave = Slave {
     address: 0x2345,
+    owner: true,
     product: 0xA3_B2C1,
     device: 0xF7_E5D4,
 };
@@ -566,16 +567,19 @@ impl Checker {
         self.expect("offsets of SlaveFound on x86-64", offsets, [0, 4, 8])?;
         let offsets = [
             offset_of!(vbus_sys::Slave, address),
+            offset_of!(vbus_sys::Slave, owner),
             offset_of!(vbus_sys::Slave, product),
             offset_of!(vbus_sys::Slave, device),
         ];
-        self.expect("offsets of Slave on x86-64", offsets, [0, 4, 8])?;
+        self.expect("offsets of Slave on x86-64", offsets, [0, 2, 4, 8])?;
         let offsets = [
             offset_of!(Entry, address),
+            offset_of!(Entry, owner),
             offset_of!(Entry, product),
             offset_of!(Entry, device),
         ];
-        self.expect("offsets of an entry of these tests", offsets, [0, 4, 8])
+        let what = "offsets of an entry of these tests";
+        self.expect(what, offsets, [0, 2, 4, 8])
     }
 
     fn slave_ids(&mut self) -> Checked<()> {
@@ -613,71 +617,114 @@ impl Checker {
     }
 
     fn slaves(&mut self) -> Checked<()> {
-        let mut table = [Entry::new(Slave::default(), 0x5A5A); 32];
-        let entered = library::slave_enter(&mut table, SLAVE);
+        for owner in [false, true] {
+            self.slaves_of(Slave { owner, ..SLAVE })?;
+        }
+        Ok(())
+    }
+
+    /// Every call of an owner on an empty table, and what its neighbour sees of it.
+    fn slaves_of(&mut self, slave: Slave) -> Checked<()> {
+        let Slave { address, owner, .. } = slave;
+        let mut table = [Entry::new(Slave::default(), 0x5A); 32];
+        let entered = library::slave_enter(&mut table, slave);
         self.expect("vbus_slave_enter", entered, 0)?;
-        self.expect("vbus_slave_enter's entry", table[0].slave(), SLAVE)?;
-        let found = library::slave_find(&table, SLAVE.address);
+        self.expect("vbus_slave_enter's entry", table[0].slave(), slave)?;
+        let byte = u8::from(owner);
+        self.expect("its owner as a byte", table[0].owner, byte)?;
+        let found = library::slave_find(&table, owner, address);
         let expected = SlaveFound {
             number: 0,
-            product: SLAVE.product,
-            device: SLAVE.device,
+            product: slave.product,
+            device: slave.device,
         };
         self.expect("vbus_slave_find", found, expected)?;
         let absent = SlaveFound {
             number: 17,
             ..SlaveFound::default()
         };
-        let found = library::slave_find(&table, 0x2346);
+        let found = library::slave_find(&table, owner, 0x2346);
         self.expect("vbus_slave_find of another", found, absent)?;
-        let changed = library::slave_change_address(&mut table, SLAVE.address, 0x2F67);
+        let found = library::slave_find(&table, !owner, address);
+        self.expect("vbus_slave_find by the neighbour", found, absent)?;
+        let changed = library::slave_change_address(&mut table, !owner, address, 0x2F67);
+        self.expect("vbus_slave_change_address by it", changed, 17)?;
+        let changed = library::slave_change_address(&mut table, owner, address, 0x2F67);
         self.expect("vbus_slave_change_address", changed, 0)?;
         let elsewhere = Slave {
             address: 0x2F67,
-            ..SLAVE
+            ..slave
         };
         self.expect("its entry", table[0].slave(), elsewhere)?;
-        let removed = library::slave_remove(&mut table, SLAVE.address);
+        self.expect("its owner as a byte", table[0].owner, byte)?;
+        let removed = library::slave_remove(&mut table, owner, address);
         self.expect("vbus_slave_remove of the old address", removed, 17)?;
-        let removed = library::slave_remove(&mut table, 0x2F67);
+        let removed = library::slave_remove(&mut table, !owner, 0x2F67);
+        self.expect("vbus_slave_remove by the neighbour", removed, 17)?;
+        let removed = library::slave_remove(&mut table, owner, 0x2F67);
         self.expect("vbus_slave_remove", removed, 0)?;
         self.expect("its entry", table[0].slave(), Slave::default())?;
-        let free = Entry::new(Slave::default(), 0x5A5A);
+        let free = Entry::new(Slave::default(), 0x5A);
         self.expect("all other entries", &table[1..], &[free; 31][..])
     }
 
     /// The padding of an entry that is handed over may hold anything, and so may the upper half of a
-    /// register that has an address or an identifier.
+    /// register that has an owner, an address or an identifier.
     fn slave_by_registers(&mut self) -> Checked<()> {
-        type BySlave = unsafe extern "C" fn(*mut vbus_sys::Slave, usize, vbus_sys::Slave) -> u32;
-        type ByWords = unsafe extern "C" fn(*mut vbus_sys::Slave, usize, u64, u64) -> u32;
-        type ByAddress =
-            unsafe extern "C" fn(*const vbus_sys::Slave, usize, u16) -> vbus_sys::SlaveFound;
-        type ByWord =
-            unsafe extern "C" fn(*const vbus_sys::Slave, usize, u64) -> vbus_sys::SlaveFound;
-        // SAFETY: a struct of twelve bytes is passed in two registers, as two numbers of 64 bits are, and
-        // a number of 16 bits in the lower half of one.
-        let enter = unsafe { transmute::<BySlave, ByWords>(vbus_sys::vbus_slave_enter) };
-        // SAFETY: as above.
-        let find = unsafe { transmute::<ByAddress, ByWord>(vbus_sys::vbus_slave_find) };
-        for padding in [0, 0x5A, 0x80, 0xFF] {
-            let padding = u64::from_le_bytes([padding; 8]);
-            let mut table = [vbus_sys::Slave::default(); 32];
-            let first =
-                u64::from(SLAVE.address) | padding << 48 >> 32 | u64::from(SLAVE.product) << 32;
-            let second = u64::from(SLAVE.device) | padding << 32;
-            // SAFETY: pointer and count are those of an array.
-            let number = unsafe { enter(table.as_mut_ptr(), table.len(), first, second) };
-            self.expect("vbus_slave_enter with padding", number, 0)?;
-            let entered = library::slave(SLAVE);
-            self.expect("the entry entered", table[0], entered)?;
-            let address = u64::from(SLAVE.address) | padding << 32;
-            // SAFETY: pointer and count are those of an array.
-            let found = unsafe { find(table.as_ptr(), table.len(), address) };
-            let found = (found.number, found.product, found.device);
-            let expected = (0, SLAVE.product, SLAVE.device);
-            self.expect("vbus_slave_find with padding", found, expected)?;
+        for owner in [false, true] {
+            for padding in [0, 0x5A, 0x80, 0xFF] {
+                self.slave_with_padding(Slave { owner, ..SLAVE }, padding)?;
+            }
         }
         Ok(())
+    }
+
+    fn slave_with_padding(&mut self, slave: Slave, padding: u8) -> Checked<()> {
+        type Entries = *mut vbus_sys::Slave;
+        type BySlave = unsafe extern "C" fn(Entries, usize, vbus_sys::Slave) -> u32;
+        type ByWords = unsafe extern "C" fn(Entries, usize, u64, u64) -> u32;
+        type Finding =
+            unsafe extern "C" fn(*const vbus_sys::Slave, usize, bool, u16) -> vbus_sys::SlaveFound;
+        type FindingWords =
+            unsafe extern "C" fn(*const vbus_sys::Slave, usize, u64, u64) -> vbus_sys::SlaveFound;
+        type Changing = unsafe extern "C" fn(Entries, usize, bool, u16, u16) -> u32;
+        type ChangingWords = unsafe extern "C" fn(Entries, usize, u64, u64, u64) -> u32;
+        type Removing = unsafe extern "C" fn(Entries, usize, bool, u16) -> u32;
+        // SAFETY: a struct of twelve bytes is passed in two registers, as two numbers of 64 bits are, and
+        // a bool or a number of 16 bits in the lower half of one.
+        let enter = unsafe { transmute::<BySlave, ByWords>(vbus_sys::vbus_slave_enter) };
+        // SAFETY: as above.
+        let find = unsafe { transmute::<Finding, FindingWords>(vbus_sys::vbus_slave_find) };
+        // SAFETY: as above.
+        let change =
+            unsafe { transmute::<Changing, ChangingWords>(vbus_sys::vbus_slave_change_address) };
+        // SAFETY: as above.
+        let remove = unsafe { transmute::<Removing, ByWords>(vbus_sys::vbus_slave_remove) };
+        let upper = u64::from_le_bytes([padding; 8]) << 32;
+        let mut table = [vbus_sys::Slave::default(); 32];
+        let (entries, n) = (table.as_mut_ptr(), table.len());
+        let [owner, address] = [u64::from(slave.owner), u64::from(slave.address)];
+        let first = address | owner << 16 | u64::from(padding) << 24;
+        let first = first | u64::from(slave.product) << 32;
+        let second = u64::from(slave.device) | upper;
+        // SAFETY: pointer and count are those of an array.
+        let number = unsafe { enter(entries, n, first, second) };
+        self.expect("vbus_slave_enter with padding", number, 0)?;
+        self.expect("the entry entered", table[0], library::slave(slave))?;
+        let [owner, address, other] = [owner, address, 0x2F67].map(|word| word | upper);
+        // SAFETY: as above.
+        let found = unsafe { find(table.as_ptr(), n, owner, address) };
+        let found = (found.number, found.product, found.device);
+        let expected = (0, slave.product, slave.device);
+        self.expect("vbus_slave_find with padding", found, expected)?;
+        // SAFETY: as above.
+        let number = unsafe { change(table.as_mut_ptr(), n, owner, address, other) };
+        self.expect("vbus_slave_change_address with padding", number, 0)?;
+        self.expect("the address changed", table[0].address, 0x2F67)?;
+        // SAFETY: as above.
+        let number = unsafe { remove(table.as_mut_ptr(), n, owner, other) };
+        self.expect("vbus_slave_remove with padding", number, 0)?;
+        let free = vbus_sys::Slave::default();
+        self.expect("the entry removed", table[0], free)
     }
 }

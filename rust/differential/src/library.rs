@@ -190,21 +190,23 @@ pub fn write_slave_id(
     as_reference!(answer => Written { number, length })
 }
 
-/// An entry of a table of slaves as it lies in memory: the two bytes behind the address stand for
-/// nothing.
+/// An entry of a table of slaves as it lies in memory: with the owner as the byte that it is, and the
+/// byte behind it, which stands for nothing.
 #[repr(C)]
 #[derive(Clone, Copy, PartialEq, Eq, Debug)]
 pub struct Entry {
     pub address: u16,
-    pub padding: u16,
+    pub owner: u8,
+    pub padding: u8,
     pub product: u32,
     pub device: u32,
 }
 
 impl Entry {
-    pub fn new(slave: Slave, padding: u16) -> Entry {
+    pub fn new(slave: Slave, padding: u8) -> Entry {
         Entry {
             address: slave.address,
+            owner: u8::from(slave.owner),
             padding,
             product: slave.product,
             device: slave.device,
@@ -214,6 +216,7 @@ impl Entry {
     pub fn slave(self) -> Slave {
         Slave {
             address: self.address,
+            owner: self.owner != 0,
             product: self.product,
             device: self.device,
         }
@@ -223,6 +226,7 @@ impl Entry {
 pub fn slave(slave: Slave) -> vbus_sys::Slave {
     vbus_sys::Slave {
         address: slave.address,
+        owner: slave.owner,
         product: slave.product,
         device: slave.device,
     }
@@ -230,25 +234,25 @@ pub fn slave(slave: Slave) -> vbus_sys::Slave {
 
 pub fn slave_enter(table: &mut [Entry], entry: Slave) -> u32 {
     let (pointer, n) = (table.as_mut_ptr().cast(), table.len());
-    // SAFETY: pointer and count are those of a slice of entries.
+    // SAFETY: pointer and count are those of a slice of entries, whose owners are 0 or 1.
     unsafe { vbus_sys::vbus_slave_enter(pointer, n, slave(entry)) }
 }
 
-pub fn slave_find(table: &[Entry], address: u16) -> SlaveFound {
+pub fn slave_find(table: &[Entry], owner: bool, address: u16) -> SlaveFound {
     let (pointer, n) = (table.as_ptr().cast(), table.len());
-    // SAFETY: pointer and count are those of a slice of entries.
-    let answer = unsafe { vbus_sys::vbus_slave_find(pointer, n, address) };
+    // SAFETY: as above.
+    let answer = unsafe { vbus_sys::vbus_slave_find(pointer, n, owner, address) };
     as_reference!(answer => SlaveFound { number, product, device })
 }
 
-pub fn slave_change_address(table: &mut [Entry], from: u16, to: u16) -> u32 {
+pub fn slave_change_address(table: &mut [Entry], owner: bool, from: u16, to: u16) -> u32 {
     let (pointer, n) = (table.as_mut_ptr().cast(), table.len());
-    // SAFETY: pointer and count are those of a slice of entries.
-    unsafe { vbus_sys::vbus_slave_change_address(pointer, n, from, to) }
+    // SAFETY: as above.
+    unsafe { vbus_sys::vbus_slave_change_address(pointer, n, owner, from, to) }
 }
 
-pub fn slave_remove(table: &mut [Entry], address: u16) -> u32 {
+pub fn slave_remove(table: &mut [Entry], owner: bool, address: u16) -> u32 {
     let (pointer, n) = (table.as_mut_ptr().cast(), table.len());
-    // SAFETY: pointer and count are those of a slice of entries.
-    unsafe { vbus_sys::vbus_slave_remove(pointer, n, address) }
+    // SAFETY: as above.
+    unsafe { vbus_sys::vbus_slave_remove(pointer, n, owner, address) }
 }

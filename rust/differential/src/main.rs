@@ -12,6 +12,7 @@ mod faults;
 mod layouts;
 mod library;
 mod naive;
+mod owners;
 mod receiver;
 mod recordings;
 mod rng;
@@ -167,8 +168,9 @@ fn compare(
 
 /// Every refusal and every verdict occurred, the naive reading and every class of receivers found
 /// records, these had unused septet bits in none, one, some and all of their blocks, positions came to
-/// the limit, there were faults of every class, and tables of slaves started from each class and came to
-/// each refusal, also where others applied behind it, or the run has shown less than it claims.
+/// the limit, there were faults of every class, tables of slaves started from each class and came to
+/// each refusal, also where others applied behind it, and two histories of an owner agreed, also with
+/// 16s in them, and parted, or the run has shown less than it claims.
 fn complete(checker: &mut Checker) -> Checked<()> {
     let errors = Error::ALL.iter().map(|error| error.number() as usize);
     for number in errors.chain([0]) {
@@ -186,12 +188,18 @@ fn complete(checker: &mut Checker) -> Checked<()> {
     let limits = receiver::LIMITS.into_iter().flatten();
     let receivers = receiver::RECORDS.into_iter().chain(limits);
     let classes = naive.into_iter().chain(receivers).chain(cases::UNUSED);
-    for class in classes.chain(faults::counted()).chain(slaves::counted()) {
+    let tables = slaves::counted().chain(owners::counted());
+    for class in classes.chain(faults::counted()).chain(tables) {
         let some = checker.cases.get(class).is_some_and(|count| *count > 0);
         checker.holds(some, || format!("there are {class}"))?;
     }
-    let calls = checker.cases.get(slaves::CALLS).copied().unwrap_or(0);
-    checker.holds(calls >= slaves::LEAST, || format!("{calls} are many calls"))?;
+    for (class, least) in [
+        (slaves::CALLS, slaves::LEAST),
+        (owners::CALLS, owners::LEAST),
+    ] {
+        let calls = checker.cases.get(class).copied().unwrap_or(0);
+        checker.holds(calls >= least, || format!("{calls} are many {class}"))?;
+    }
     for (function, first, behind) in slaves::orders() {
         let some = checker.orders.contains_key(&(function, first, behind));
         checker.holds(some, || {

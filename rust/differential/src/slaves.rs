@@ -7,7 +7,7 @@ use reference::{Slave, SlaveFound};
 use vbus::{Identifiers, SlaveTable};
 
 /// How many entries a table has.
-const SLAVES: usize = 32;
+pub const SLAVES: usize = 32;
 
 /// Lengths that are refused.
 const WRONG_LENGTHS: [usize; 5] = [0, 1, 31, 33, 64];
@@ -18,12 +18,50 @@ pub const LEAST: u64 = 1_000_000;
 /// The calls on tables.
 pub const CALLS: &str = "slaves: calls";
 
-/// The calls that gave a slave the address that it has, those in which an address stood twice, and those
-/// that found identifiers of more than 24 bits. Where one stays 0 the run has shown less than it claims.
-const KINDS: [&str; 3] = [SAME_ADDRESS, TWICE, WIDE];
+/// Kinds of calls. Where one stays 0 the run has shown less than it claims.
+const KINDS: [&str; 15] = [
+    SAME_ADDRESS,
+    TWICE,
+    WIDE,
+    BOTH,
+    NEIGHBOUR_LOWER,
+    NEIGHBOURS_ALONE,
+    ENTERED_BOTH,
+    CHANGED_BOTH,
+    LAST_OF_SHARE,
+    FREE_NAMED,
+    TAKEN_OVER,
+    SHARE_USED,
+    ABOVE_SHARE,
+    NONE_FREE,
+    FULL_AND_USED,
+];
+/// Gave a slave the address that it has.
 const SAME_ADDRESS: &str = "slaves: same address";
+/// The address stood twice under the owner.
 const TWICE: &str = "slaves: lower counts";
+/// Found identifiers of more than 24 bits.
 const WIDE: &str = "slaves: wide found";
+/// Found, changed or removed an address that the neighbour has too; its entry was the lower one.
+const BOTH: &str = "slaves: both have it";
+const NEIGHBOUR_LOWER: &str = "slaves: other lower";
+/// Refused as 17 though the neighbour has the address.
+const NEIGHBOURS_ALONE: &str = "slaves: other alone";
+/// Entered, or changed to, an address that the neighbour has.
+const ENTERED_BOTH: &str = "slaves: entered both";
+const CHANGED_BOTH: &str = "slaves: changed both";
+/// Entered as the 24th of the owner's.
+const LAST_OF_SHARE: &str = "slaves: the 24th";
+/// Entered though 24 entries or more name the owner, some of them free.
+const FREE_NAMED: &str = "slaves: free named";
+/// Entered where a free entry names the neighbour.
+const TAKEN_OVER: &str = "slaves: taken over";
+/// Refused as 16: with 24 entries while some are free, with more, with fewer while none is free, and
+/// with 24 or more while none is.
+const SHARE_USED: &str = "slaves: 16 by 24";
+const ABOVE_SHARE: &str = "slaves: 16 above 24";
+const NONE_FREE: &str = "slaves: 16, no free";
+const FULL_AND_USED: &str = "slaves: 16 by both";
 
 /// Each function's refusals in their order. Each must be given, also where each of those behind it applies
 /// too, or the run has shown less than it claims.
@@ -59,12 +97,12 @@ pub fn orders() -> impl Iterator<Item = (&'static str, u32, u32)> {
 #[derive(Clone, Copy, PartialEq, Debug)]
 pub enum Operation {
     Enter(Slave),
-    Find(u16),
-    ChangeAddress(u16, u16),
-    Remove(u16),
+    Find(bool, u16),
+    ChangeAddress(bool, u16, u16),
+    Remove(bool, u16),
 }
 
-use Operation::{ChangeAddress, Enter, Find, Remove};
+pub use Operation::{ChangeAddress, Enter, Find, Remove};
 
 /// The answer of a function that gives the number alone.
 fn alone(number: u32) -> SlaveFound {
@@ -78,27 +116,39 @@ impl Operation {
     fn name(self) -> &'static str {
         match self {
             Enter(_) => "enter",
-            Find(_) => "find",
+            Find(..) => "find",
             ChangeAddress(..) => "change_address",
-            Remove(_) => "remove",
+            Remove(..) => "remove",
+        }
+    }
+
+    /// Whose call it is.
+    fn owner(self) -> bool {
+        match self {
+            Enter(slave) => slave.owner,
+            Find(owner, _) | ChangeAddress(owner, ..) | Remove(owner, _) => owner,
         }
     }
 
     pub fn by_library(self, table: &mut [Entry]) -> SlaveFound {
         match self {
             Enter(slave) => alone(library::slave_enter(table, slave)),
-            Find(address) => library::slave_find(table, address),
-            ChangeAddress(from, to) => alone(library::slave_change_address(table, from, to)),
-            Remove(address) => alone(library::slave_remove(table, address)),
+            Find(owner, address) => library::slave_find(table, owner, address),
+            ChangeAddress(owner, from, to) => {
+                alone(library::slave_change_address(table, owner, from, to))
+            }
+            Remove(owner, address) => alone(library::slave_remove(table, owner, address)),
         }
     }
 
     pub fn by_reference(self, table: &mut [Slave]) -> SlaveFound {
         match self {
             Enter(slave) => alone(reference::slave_enter(table, slave)),
-            Find(address) => reference::slave_find(table, address),
-            ChangeAddress(from, to) => alone(reference::slave_change_address(table, from, to)),
-            Remove(address) => alone(reference::slave_remove(table, address)),
+            Find(owner, address) => reference::slave_find(table, owner, address),
+            ChangeAddress(owner, from, to) => {
+                alone(reference::slave_change_address(table, owner, from, to))
+            }
+            Remove(owner, address) => alone(reference::slave_remove(table, owner, address)),
         }
     }
 
@@ -106,9 +156,9 @@ impl Operation {
         let none = Identifiers::default();
         let answer = match self {
             Enter(slave) => table.enter(wrapper(slave)).map(|()| none),
-            Find(address) => table.find(address),
-            ChangeAddress(from, to) => table.change_address(from, to).map(|()| none),
-            Remove(address) => table.remove(address).map(|()| none),
+            Find(owner, address) => table.find(owner, address),
+            ChangeAddress(owner, from, to) => table.change_address(owner, from, to).map(|()| none),
+            Remove(owner, address) => table.remove(owner, address).map(|()| none),
         };
         match answer {
             Ok(Identifiers { product, device }) => SlaveFound {
@@ -124,6 +174,7 @@ impl Operation {
 fn wrapper(slave: Slave) -> vbus::Slave {
     vbus::Slave {
         address: slave.address,
+        owner: slave.owner,
         product: slave.product,
         device: slave.device,
     }
@@ -139,15 +190,16 @@ pub struct Table {
 }
 
 impl Table {
-    fn new(rng: &mut Rng, slaves: &[Slave]) -> Table {
+    pub fn new(rng: &mut Rng, slaves: &[Slave]) -> Table {
         let guard = Slave {
             address: 0x2010,
+            owner: rng.once_in(2),
             product: 0x5A5A_5A5A,
             device: 0xA5A5_A5A5,
         };
         let guards = [guard; GUARD];
         let around = guards.iter().chain(slaves).chain(&guards);
-        let entries = around.map(|slave| Entry::new(*slave, rng.word())).collect();
+        let entries = around.map(|slave| Entry::new(*slave, rng.byte())).collect();
         Table { entries }
     }
 
@@ -161,10 +213,15 @@ impl Table {
         let entries = self.entries[GUARD..end].iter();
         entries.map(|entry| entry.slave()).collect()
     }
+
+    /// Every owner is a bool.
+    fn is_sound(&self) -> bool {
+        self.entries.iter().all(|entry| entry.owner <= 1)
+    }
 }
 
 /// A slave's address, of the 127 groups' 16 each.
-fn slaves_address(rng: &mut Rng) -> u16 {
+pub fn slaves_address(rng: &mut Rng) -> u16 {
     let group = 1 + rng.below(127) as u16;
     let sub = rng.below(16) as u16;
     0x2000 | group >> 3 << 8 | (group & 7) << 4 | sub
@@ -194,9 +251,11 @@ pub fn identifier(rng: &mut Rng) -> u32 {
     }
 }
 
-fn slave(rng: &mut Rng, address: u16) -> Slave {
+/// A slave of an owner.
+pub fn slave(rng: &mut Rng, owner: bool, address: u16) -> Slave {
     Slave {
         address,
+        owner,
         product: identifier(rng),
         device: identifier(rng),
     }
@@ -206,12 +265,13 @@ fn slave(rng: &mut Rng, address: u16) -> Slave {
 fn garbage(rng: &mut Rng, address: u16) -> Slave {
     Slave {
         address,
+        owner: false,
         product: rng.next() as u32,
         device: rng.next() as u32,
     }
 }
 
-/// What a run starts from: the class, and a table's entry for an index.
+/// What a run starts from: the class, and a table's entry for an index, but for its owner.
 type Start = (&'static str, fn(&mut Rng, &[u16], usize) -> Slave);
 
 /// The starts. Where one stays 0 the run has shown less than it claims.
@@ -220,24 +280,24 @@ const STARTS: [Start; 7] = [
     // Up to 127 entries have addresses of their own.
     ("slaves: full", |rng, _, index| {
         let group = (index % 127 + 1) as u16;
-        slave(rng, 0x2000 | group >> 3 << 8 | (group & 7) << 4)
+        slave(rng, false, 0x2000 | group >> 3 << 8 | (group & 7) << 4)
     }),
     ("slaves: some", |rng, addresses, _| match rng.below(2) {
         0 => Slave::default(),
         _ => {
             let address = rng.pick(addresses);
-            slave(rng, address)
+            slave(rng, false, address)
         }
     }),
     ("slaves: twice", |rng, addresses, _| {
         let address = rng.pick(&addresses[..2]);
-        slave(rng, address)
+        slave(rng, false, address)
     }),
     ("slaves: no slave", |rng, _, _| {
         let address = rng.word();
-        slave(rng, address)
+        slave(rng, false, address)
     }),
-    // Free entries have identifiers too.
+    // Free entries have identifiers too, and name owners.
     ("slaves: garbage", |rng, addresses, _| {
         let address = if rng.once_in(2) {
             0
@@ -253,14 +313,42 @@ const STARTS: [Start; 7] = [
             _ => rng.word(),
         };
         match rng.below(2) {
-            0 => slave(rng, address),
+            0 => slave(rng, false, address),
             _ => garbage(rng, address),
         }
     }),
 ];
 
-/// A call, mostly with addresses of these. `filling` runs remove little.
-fn operation(rng: &mut Rng, addresses: &[u16], filling: bool) -> Operation {
+/// How many of a table's entries one owner gets.
+const SHARES: [usize; 11] = [0, 1, 7, 8, 12, 16, 23, 24, 25, 31, 32];
+
+/// Gives as many entries as one of the shares, wherever they stand, to the one owner and the others to
+/// the other; those that are zeroed stay so.
+fn share_out(rng: &mut Rng, slaves: &mut [Slave]) {
+    let mut share = rng.pick(&SHARES);
+    let one = rng.once_in(2);
+    let entries = slaves
+        .iter_mut()
+        .filter(|slave| **slave != Slave::default());
+    let mut entries: Vec<&mut Slave> = entries.collect();
+    while !entries.is_empty() {
+        let slave = entries.swap_remove(rng.below(entries.len()));
+        slave.owner = if share > 0 { one } else { !one };
+        share = share.saturating_sub(1);
+    }
+}
+
+/// How the calls of a run are chosen.
+pub struct Habits {
+    /// Removes little.
+    pub filling: bool,
+    /// Whose calls they mostly are, and that the other's are one in so many; 0 for none.
+    pub owner: bool,
+    pub other: usize,
+}
+
+/// A call, mostly with addresses of these.
+pub fn operation(rng: &mut Rng, addresses: &[u16], habits: &Habits) -> Operation {
     let mut address = || match rng.below(40) {
         0 => rng.word(),
         1 => 0,
@@ -268,39 +356,61 @@ fn operation(rng: &mut Rng, addresses: &[u16], filling: bool) -> Operation {
         _ => rng.pick(addresses),
     };
     let (first, second) = (address(), address());
-    match rng.below(if filling { 64 } else { 16 }) {
-        0..=2 => Remove(first),
-        3..=5 => Find(first),
-        6 => ChangeAddress(first, first),
-        7..=10 => ChangeAddress(first, second),
-        _ => Enter(slave(rng, first)),
+    let others = habits.other > 0 && rng.once_in(habits.other);
+    let owner = habits.owner ^ others;
+    match rng.below(if habits.filling { 64 } else { 16 }) {
+        0..=2 => Remove(owner, first),
+        3..=5 => Find(owner, first),
+        6 => ChangeAddress(owner, first, first),
+        7..=10 => ChangeAddress(owner, first, second),
+        _ => Enter(slave(rng, owner, first)),
     }
 }
 
 // The rules, by document 02's words
 
+/// The entries of an owner: those that aren't free and name it.
+fn entries_of(owner: bool, table: &[Slave]) -> impl Iterator<Item = (usize, &Slave)> {
+    let entries = table.iter().enumerate();
+    entries.filter(move |(_, slave)| slave.address != 0 && slave.owner == owner)
+}
+
+/// An owner's lowest entry with an address.
+fn lowest(owner: bool, address: u16, table: &[Slave]) -> Option<usize> {
+    let mut own = entries_of(owner, table);
+    own.find(|(_, slave)| slave.address == address)
+        .map(|(index, _)| index)
+}
+
+/// The lowest free entry.
+fn lowest_free(table: &[Slave]) -> Option<usize> {
+    table.iter().position(|slave| slave.address == 0)
+}
+
 /// The refusals that apply to a call, in their order.
 fn refusals(operation: Operation, table: &[Slave]) -> Vec<u32> {
-    let there = |address| table.iter().any(|slave| slave.address == address);
+    let owner = operation.owner();
+    let held = entries_of(owner, table).count();
+    let there = |address| entries_of(owner, table).any(|(_, slave)| slave.address == address);
     let no_slave = |address: u16| {
         let bit = |k: u16| address / (1 << k) % 2;
         let two = [bit(14), bit(13), bit(12)] == [0, 1, 0];
         !two || bit(7) == 1 || bit(15) == 1 || (4..=11).all(|k| bit(k) == 0)
     };
     let wide = |slave: Slave| slave.product >= 1 << 24 || slave.device >= 1 << 24;
-    let not_found = |address| address == 0 || !there(address);
+    let none_free = table.iter().all(|slave| slave.address != 0);
     let mut lines = vec![(24, table.len() != SLAVES)];
     match operation {
         Enter(slave) => lines.extend([
             (14, no_slave(slave.address)),
             (18, wide(slave)),
             (15, there(slave.address)),
-            (16, !there(0)),
+            (16, held >= 24 || none_free),
         ]),
-        Find(address) | Remove(address) => lines.push((17, not_found(address))),
-        ChangeAddress(from, to) => lines.extend([
+        Find(_, address) | Remove(_, address) => lines.push((17, !there(address))),
+        ChangeAddress(_, from, to) => lines.extend([
             (14, no_slave(to)),
-            (17, not_found(from)),
+            (17, !there(from)),
             (15, to != from && there(to)),
         ]),
     }
@@ -310,31 +420,94 @@ fn refusals(operation: Operation, table: &[Slave]) -> Vec<u32> {
 
 /// The entry that a call which isn't refused names, and what stands there afterwards.
 fn named(operation: Operation, table: &[Slave]) -> Option<(usize, Slave)> {
-    let lowest = |address| (0..table.len()).find(|&i| table[i].address == address);
     match operation {
-        Enter(slave) => Some((lowest(0)?, slave)),
-        Find(_) => None,
-        ChangeAddress(from, to) => {
-            let i = lowest(from)?;
+        Enter(slave) => Some((lowest_free(table)?, slave)),
+        Find(..) => None,
+        ChangeAddress(owner, from, to) => {
+            let i = lowest(owner, from, table)?;
             let changed = Slave {
                 address: to,
                 ..table[i]
             };
             Some((i, changed))
         }
-        Remove(address) => Some((lowest(address)?, Slave::default())),
+        Remove(owner, address) => Some((lowest(owner, address, table)?, Slave::default())),
     }
 }
 
 /// The identifiers that a call gives which isn't refused.
 fn told(operation: Operation, table: &[Slave]) -> (u32, u32) {
-    match operation {
-        Find(address) => table
-            .iter()
-            .find(|slave| slave.address == address)
-            .map_or((0, 0), |slave| (slave.product, slave.device)),
-        _ => (0, 0),
-    }
+    let found = match operation {
+        Find(owner, address) => lowest(owner, address, table),
+        _ => None,
+    };
+    found.map_or((0, 0), |index| (table[index].product, table[index].device))
+}
+
+/// The kinds that a call on a table is of, by its number.
+fn kinds(operation: Operation, number: u32, table: &[Slave]) -> Vec<&'static str> {
+    let kinds = match operation {
+        Enter(slave) => entering_kinds(slave, number, table),
+        Find(owner, address) => {
+            let (product, device) = told(operation, table);
+            let mut kinds = kinds_of_address(owner, address, number, table);
+            kinds.push((WIDE, (product | device) >> 24 != 0));
+            kinds
+        }
+        ChangeAddress(owner, from, to) => {
+            let mut kinds = kinds_of_address(owner, from, number, table);
+            let neighbours = lowest(!owner, to, table).is_some();
+            kinds.push((SAME_ADDRESS, number == 0 && from == to));
+            kinds.push((CHANGED_BOTH, number == 0 && from != to && neighbours));
+            kinds
+        }
+        Remove(owner, address) => kinds_of_address(owner, address, number, table),
+    };
+    let kinds = kinds.into_iter().filter(|(_, is)| *is);
+    kinds.map(|(kind, _)| kind).collect()
+}
+
+/// The kinds of a call that is about an address which an owner has, or hasn't.
+fn kinds_of_address(
+    owner: bool,
+    address: u16,
+    number: u32,
+    table: &[Slave],
+) -> Vec<(&'static str, bool)> {
+    let (own, neighbours) = (
+        lowest(owner, address, table),
+        lowest(!owner, address, table),
+    );
+    let having = entries_of(owner, table).filter(|(_, slave)| slave.address == address);
+    let both = number == 0 && neighbours.is_some();
+    vec![
+        (TWICE, number == 0 && having.count() > 1),
+        (BOTH, both),
+        (NEIGHBOUR_LOWER, both && neighbours < own),
+        (NEIGHBOURS_ALONE, number == 17 && neighbours.is_some()),
+    ]
+}
+
+fn entering_kinds(slave: Slave, number: u32, table: &[Slave]) -> Vec<(&'static str, bool)> {
+    let Slave { address, owner, .. } = slave;
+    let held = entries_of(owner, table).count();
+    let naming = table.iter().filter(|slave| slave.owner == owner).count();
+    let free = lowest_free(table);
+    let taken = free.is_some_and(|index| table[index].owner != owner);
+    let (entered, refused) = (number == 0, number == 16);
+    vec![
+        (
+            ENTERED_BOTH,
+            entered && lowest(!owner, address, table).is_some(),
+        ),
+        (LAST_OF_SHARE, entered && held == 23),
+        (FREE_NAMED, entered && naming >= 24),
+        (TAKEN_OVER, entered && taken),
+        (SHARE_USED, refused && held == 24 && free.is_some()),
+        (ABOVE_SHARE, refused && held > 24 && free.is_some()),
+        (NONE_FREE, refused && held < 24),
+        (FULL_AND_USED, refused && held >= 24 && free.is_none()),
+    ]
 }
 
 impl Checker {
@@ -347,18 +520,21 @@ impl Checker {
         let what = || format!("{operation:X?} on {} entries {before:X?}", before.len());
         let refusals = refusals(operation, &before);
         self.first_given(operation.name(), answer.number, &refusals, what)?;
+        for kind in kinds(operation, answer.number, &before) {
+            self.count(kind);
+        }
         let mut expected = before.clone();
         let mut identifiers = (0, 0);
         let mut changed = None;
         if answer.number == 0 {
-            self.count_kind(operation, &before);
             identifiers = told(operation, &before);
             if let Some((index, slave)) = named(operation, &before) {
                 expected[index] = slave;
                 changed = Some(GUARD + index);
             }
         }
-        let same = after == expected && (answer.product, answer.device) == identifiers;
+        let same =
+            after == expected && table.is_sound() && (answer.product, answer.device) == identifiers;
         self.holds(same, || {
             let what = what();
             format!("{what} tells {identifiers:X?} and leaves {expected:X?}")
@@ -373,26 +549,6 @@ impl Checker {
             format!("{what} leaves all other bytes of {entries:X?}; they are {after:X?}")
         })?;
         Ok(answer)
-    }
-
-    /// Counts a call that wasn't refused if it is of one of these kinds.
-    fn count_kind(&mut self, operation: Operation, table: &[Slave]) {
-        let (address, found) = match operation {
-            ChangeAddress(from, to) if from == to => {
-                self.count(SAME_ADDRESS);
-                (from, None)
-            }
-            ChangeAddress(address, _) | Remove(address) => (address, None),
-            Find(address) => (address, Some(told(operation, table))),
-            Enter(_) => return,
-        };
-        let having = table.iter().filter(|slave| slave.address == address);
-        if having.count() > 1 {
-            self.count(TWICE);
-        }
-        if found.is_some_and(|(product, device)| (product | device) >> 24 != 0) {
-            self.count(WIDE);
-        }
     }
 
     /// The number is that of the first refusal that applies, 0 if none does. Counts it, alone and before
@@ -417,16 +573,19 @@ impl Checker {
     }
 
     /// A run of calls on a table that starts so, and on one of the `vbus` crate if its length is right.
-    fn run_on(
+    /// Gives the numbers that were answered.
+    pub fn run_on(
         &mut self,
         slaves: &[Slave],
         operations: impl IntoIterator<Item = Operation>,
-    ) -> Checked<()> {
+    ) -> Checked<Vec<u32>> {
         let mut table = Table::new(&mut self.rng, slaves);
         let entries: Result<[Slave; SLAVES], _> = slaves.try_into();
         let mut wrapped = entries.map(|entries| SlaveTable::from(entries.map(wrapper)));
+        let mut numbers = Vec::new();
         for operation in operations {
             let answer = self.by_the_rules(&mut table, operation)?;
+            numbers.push(answer.number);
             let Ok(wrapped) = &mut wrapped else {
                 continue;
             };
@@ -442,7 +601,7 @@ impl Checker {
                 )
             })?;
         }
-        Ok(())
+        Ok(numbers)
     }
 
     /// A run from one of the starts, mostly on a table of the right length.
@@ -454,13 +613,19 @@ impl Checker {
             _ => (SLAVES, 200),
         };
         let addresses = addresses(rng);
-        let slaves: Vec<Slave> = (0..length).map(|i| start(rng, &addresses, i)).collect();
-        let filling = rng.once_in(2);
+        let mut slaves: Vec<Slave> = (0..length).map(|i| start(rng, &addresses, i)).collect();
+        share_out(rng, &mut slaves);
+        let habits = Habits {
+            filling: rng.once_in(2),
+            owner: rng.once_in(2),
+            other: rng.pick(&[2, 2, 8]),
+        };
         let operations: Vec<Operation> = (0..calls)
-            .map(|_| operation(rng, &addresses, filling))
+            .map(|_| operation(rng, &addresses, &habits))
             .collect();
         self.count(class);
-        self.run_on(&slaves, operations)
+        self.run_on(&slaves, operations)?;
+        Ok(())
     }
 
     /// Runs until so many calls were made as every run makes.
@@ -471,11 +636,13 @@ impl Checker {
         Ok(())
     }
 
-    /// Every address: entered, given to a slave, and found and removed where it stands in a table.
+    /// Every address: entered, given to a slave, and found and removed where it stands in a table, once
+    /// under the owner alone and once under both.
     pub fn every_slave_address(&mut self) -> Checked<()> {
         let mut entered = 0;
         for address in 0..=u16::MAX {
-            let entry = slave(&mut self.rng, address);
+            let owner = self.rng.once_in(2);
+            let entry = slave(&mut self.rng, owner, address);
             let mut slaves = [Slave::default(); SLAVES];
             let mut table = Table::new(&mut self.rng, &slaves);
             let plain = Slave {
@@ -484,75 +651,121 @@ impl Checker {
             };
             let answer = self.by_the_rules(&mut table, Enter(plain))?;
             entered += usize::from(answer.number == 0);
+            slaves[self.rng.below(SLAVES)] = slave(&mut self.rng, !owner, address);
             slaves[self.rng.below(SLAVES)] = entry;
-            self.run_on(&slaves, [Find(address), Remove(address), Find(address)])?;
+            let calls = [
+                Find(owner, address),
+                Remove(owner, address),
+                Find(owner, address),
+                Find(!owner, address),
+            ];
+            self.run_on(&slaves, calls)?;
             slaves[7] = Slave {
                 address: 0x2010,
                 ..entry
             };
-            self.run_on(&slaves, [ChangeAddress(0x2010, address), Find(address)])?;
+            let calls = [ChangeAddress(owner, 0x2010, address), Find(owner, address)];
+            self.run_on(&slaves, calls)?;
         }
         self.holds(entered == 127 * 16, || {
             format!("127 groups of 16 slaves; entered were {entered}")
         })
     }
 
-    fn plain_slave(&mut self) -> Slave {
+    /// A slave of either owner that can be entered.
+    pub fn plain_slave(&mut self) -> Slave {
         Slave {
             address: slaves_address(&mut self.rng),
+            owner: self.rng.once_in(2),
             product: self.rng.next() as u32 & 0xFF_FFFF,
             device: self.rng.next() as u32 & 0xFF_FFFF,
         }
     }
 
-    /// A table without a free entry, each with an address of its own, none of them of 0x2F00 or above.
+    /// A table without a free entry, 16 of each owner, each with an address of its own, none of them of
+    /// 0x2F00 or above.
     fn full_table(&mut self) -> Vec<Slave> {
         (0..SLAVES)
             .map(|i| Slave {
                 address: 0x2010 + 0x100 * (i / 4) as u16 + 0x10 * (i % 4) as u16,
+                owner: i % 2 == 1,
                 ..self.plain_slave()
             })
             .collect()
     }
 
-    /// Every two entries: both free, both with the same address, and the one changed to the other's.
+    /// Every two entries, of the same owner and of both: both free, both with the same address, and the
+    /// one changed to the other's.
     pub fn every_two_entries(&mut self) -> Checked<()> {
         for first in 0..SLAVES {
             for second in 0..SLAVES {
-                let full = self.full_table();
-                let [a, b] = [full[first].address, full[second].address];
-                let entering = [0x2F00, 0x2F01, 0x2F02].map(|address| {
-                    Enter(Slave {
-                        address,
-                        ..self.plain_slave()
-                    })
-                });
-                let mut free = full.clone();
-                free[first].address = 0;
-                free[second] = Slave::default();
-                self.run_on(&free, entering)?;
-                let changing = [ChangeAddress(a, b), ChangeAddress(a, 0x2F7F), Find(b)];
-                self.run_on(&full, changing)?;
-                let removing = [
-                    Remove(a),
-                    Remove(b),
-                    Find(a),
-                    Remove(b),
-                    ChangeAddress(b, a),
-                ];
-                self.run_on(&full, removing)?;
-                let mut twice = full.clone();
-                twice[second].address = a;
-                let calls = [
-                    Find(a),
-                    ChangeAddress(a, a),
-                    ChangeAddress(a, 0x2F7F),
-                    Find(a),
-                ];
-                self.run_on(&twice, calls)?;
-                let calls = [Find(a), Remove(a), Find(a), Remove(a), Find(a)];
-                self.run_on(&twice, calls)?;
+                for owners in [[false, false], [false, true], [true, false], [true, true]] {
+                    let mut full = self.full_table();
+                    full[first].owner = owners[0];
+                    full[second].owner = owners[1];
+                    self.two_entries(&full, first, second)?;
+                    self.same_address(&full, first, second)?;
+                }
             }
+        }
+        Ok(())
+    }
+
+    fn two_entries(&mut self, full: &[Slave], first: usize, second: usize) -> Checked<()> {
+        let [one, other] = [full[first].owner, full[second].owner];
+        let [a, b] = [full[first].address, full[second].address];
+        let entering = [(one, 0x2F00), (other, 0x2F01), (one, 0x2F02)].map(|(owner, address)| {
+            Enter(Slave {
+                address,
+                owner,
+                ..self.plain_slave()
+            })
+        });
+        let mut free = full.to_vec();
+        free[first].address = 0;
+        free[second] = Slave::default();
+        self.run_on(&free, entering)?;
+        let changing = [
+            ChangeAddress(one, a, b),
+            ChangeAddress(one, a, 0x2F7F),
+            Find(one, b),
+            Find(other, b),
+        ];
+        self.run_on(full, changing)?;
+        let removing = [
+            Remove(!one, a),
+            Remove(one, a),
+            Remove(other, b),
+            Find(one, a),
+            Remove(other, b),
+            ChangeAddress(other, b, a),
+        ];
+        self.run_on(full, removing)?;
+        Ok(())
+    }
+
+    fn same_address(&mut self, full: &[Slave], first: usize, second: usize) -> Checked<()> {
+        let a = full[first].address;
+        let mut twice = full.to_vec();
+        twice[second].address = a;
+        for owner in [full[first].owner, full[second].owner] {
+            let calls = [
+                Find(owner, a),
+                ChangeAddress(owner, a, a),
+                ChangeAddress(owner, a, 0x2F7F),
+                Find(owner, a),
+                Find(!owner, a),
+            ];
+            self.run_on(&twice, calls)?;
+            let calls = [
+                Find(owner, a),
+                Remove(owner, a),
+                Find(owner, a),
+                Find(!owner, a),
+                Remove(owner, a),
+                Find(owner, a),
+            ];
+            self.run_on(&twice, calls)?;
         }
         Ok(())
     }
@@ -567,13 +780,15 @@ impl Checker {
                 [vec![Slave::default(); length], again.take(length).collect()];
             for slaves in tables {
                 let entry = self.plain_slave();
-                for address in [full[0].address, 0x2F00, 0x2000, 0] {
+                let owner = entry.owner;
+                for address in [full[0].address, full[1].address, 0x2F00, 0x2000, 0] {
                     let calls = [
-                        Find(address),
+                        Find(owner, address),
                         Enter(Slave { address, ..entry }),
-                        ChangeAddress(address, 0x2F01),
-                        ChangeAddress(full[1].address, address),
-                        Remove(address),
+                        ChangeAddress(owner, address, 0x2F01),
+                        ChangeAddress(owner, full[2].address, address),
+                        ChangeAddress(owner, full[3].address, address),
+                        Remove(owner, address),
                     ];
                     self.run_on(&slaves, calls)?;
                 }
@@ -591,13 +806,15 @@ impl Checker {
             for identifier in [1 << bit, u32::MAX >> bit] {
                 for [product, device] in [[identifier, 0], [0, identifier], [identifier; 2]] {
                     for address in [0x2F00, full[0].address, 0x2000, 0] {
+                        let owner = self.rng.once_in(2);
                         let entry = Slave {
                             address,
+                            owner,
                             product,
                             device,
                         };
-                        self.run_on(&free, [Enter(entry), Find(address)])?;
-                        self.run_on(&full, [Enter(entry), Find(address)])?;
+                        self.run_on(&free, [Enter(entry), Find(owner, address)])?;
+                        self.run_on(&full, [Enter(entry), Find(owner, address)])?;
                     }
                 }
             }
