@@ -106,6 +106,45 @@ type ReceiveBytes = unsafe extern "C" fn(
     usize,
 ) -> ReceivedBytes;
 
+type Entries = *mut vbus_sys::Slave;
+type ConstEntries = *const vbus_sys::Slave;
+
+type Enter = unsafe extern "C" fn(Entries, usize, vbus_sys::Slave) -> u32;
+type Find = unsafe extern "C" fn(ConstEntries, usize, bool, u16) -> vbus_sys::SlaveFound;
+type ChangeAddress = unsafe extern "C" fn(Entries, usize, bool, u16, u16) -> u32;
+type Remove = unsafe extern "C" fn(Entries, usize, bool, u16) -> u32;
+
+type EnterWords = unsafe extern "C" fn(Entries, usize, u64, u64) -> u32;
+type FindWords = unsafe extern "C" fn(ConstEntries, usize, u64, u64) -> vbus_sys::SlaveFound;
+type ChangeAddressWords = unsafe extern "C" fn(Entries, usize, u64, u64, u64) -> u32;
+type RemoveWords = unsafe extern "C" fn(Entries, usize, u64, u64) -> u32;
+
+/// The calls on a table of slaves, with what they get by value as it lies in the registers.
+struct ByWords {
+    enter: EnterWords,
+    find: FindWords,
+    change_address: ChangeAddressWords,
+    remove: RemoveWords,
+}
+
+fn by_words() -> ByWords {
+    use vbus_sys::{
+        vbus_slave_change_address, vbus_slave_enter, vbus_slave_find, vbus_slave_remove,
+    };
+    // SAFETY: a struct of twelve bytes is passed in two registers, as two numbers of 64 bits are, and a
+    // bool or a number of 16 bits in the lower half of one.
+    unsafe {
+        ByWords {
+            enter: transmute::<Enter, EnterWords>(vbus_slave_enter),
+            find: transmute::<Find, FindWords>(vbus_slave_find),
+            change_address: transmute::<ChangeAddress, ChangeAddressWords>(
+                vbus_slave_change_address,
+            ),
+            remove: transmute::<Remove, RemoveWords>(vbus_slave_remove),
+        }
+    }
+}
+
 impl Checker {
     pub fn layouts(&mut self) -> Checked<()> {
         self.note(|| "the first layout check".to_string());
@@ -680,49 +719,29 @@ impl Checker {
     }
 
     fn slave_with_padding(&mut self, slave: Slave, padding: u8) -> Checked<()> {
-        type Entries = *mut vbus_sys::Slave;
-        type BySlave = unsafe extern "C" fn(Entries, usize, vbus_sys::Slave) -> u32;
-        type ByWords = unsafe extern "C" fn(Entries, usize, u64, u64) -> u32;
-        type Finding =
-            unsafe extern "C" fn(*const vbus_sys::Slave, usize, bool, u16) -> vbus_sys::SlaveFound;
-        type FindingWords =
-            unsafe extern "C" fn(*const vbus_sys::Slave, usize, u64, u64) -> vbus_sys::SlaveFound;
-        type Changing = unsafe extern "C" fn(Entries, usize, bool, u16, u16) -> u32;
-        type ChangingWords = unsafe extern "C" fn(Entries, usize, u64, u64, u64) -> u32;
-        type Removing = unsafe extern "C" fn(Entries, usize, bool, u16) -> u32;
-        // SAFETY: a struct of twelve bytes is passed in two registers, as two numbers of 64 bits are, and
-        // a bool or a number of 16 bits in the lower half of one.
-        let enter = unsafe { transmute::<BySlave, ByWords>(vbus_sys::vbus_slave_enter) };
-        // SAFETY: as above.
-        let find = unsafe { transmute::<Finding, FindingWords>(vbus_sys::vbus_slave_find) };
-        // SAFETY: as above.
-        let change =
-            unsafe { transmute::<Changing, ChangingWords>(vbus_sys::vbus_slave_change_address) };
-        // SAFETY: as above.
-        let remove = unsafe { transmute::<Removing, ByWords>(vbus_sys::vbus_slave_remove) };
-        let upper = u64::from_le_bytes([padding; 8]) << 32;
+        let calls = by_words();
         let mut table = [vbus_sys::Slave::default(); 32];
-        let (entries, n) = (table.as_mut_ptr(), table.len());
+        let upper = u64::from_le_bytes([padding; 8]) << 32;
         let [owner, address] = [u64::from(slave.owner), u64::from(slave.address)];
         let first = address | owner << 16 | u64::from(padding) << 24;
         let first = first | u64::from(slave.product) << 32;
         let second = u64::from(slave.device) | upper;
         // SAFETY: pointer and count are those of an array.
-        let number = unsafe { enter(entries, n, first, second) };
+        let number = unsafe { (calls.enter)(table.as_mut_ptr(), 32, first, second) };
         self.expect("vbus_slave_enter with padding", number, 0)?;
         self.expect("the entry entered", table[0], library::slave(slave))?;
-        let [owner, address, other] = [owner, address, 0x2F67].map(|word| word | upper);
+        let [owner, from, to] = [owner, address, 0x2F67].map(|word| word | upper);
         // SAFETY: as above.
-        let found = unsafe { find(table.as_ptr(), n, owner, address) };
+        let found = unsafe { (calls.find)(table.as_ptr(), 32, owner, from) };
         let found = (found.number, found.product, found.device);
         let expected = (0, slave.product, slave.device);
         self.expect("vbus_slave_find with padding", found, expected)?;
         // SAFETY: as above.
-        let number = unsafe { change(table.as_mut_ptr(), n, owner, address, other) };
+        let number = unsafe { (calls.change_address)(table.as_mut_ptr(), 32, owner, from, to) };
         self.expect("vbus_slave_change_address with padding", number, 0)?;
         self.expect("the address changed", table[0].address, 0x2F67)?;
         // SAFETY: as above.
-        let number = unsafe { remove(table.as_mut_ptr(), n, owner, other) };
+        let number = unsafe { (calls.remove)(table.as_mut_ptr(), 32, owner, to) };
         self.expect("vbus_slave_remove with padding", number, 0)?;
         let free = vbus_sys::Slave::default();
         self.expect("the entry removed", table[0], free)

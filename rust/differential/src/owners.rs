@@ -317,9 +317,10 @@ impl Checker {
             other: 0,
         };
         let length = rng.pick(&[20, 100, 200]);
-        let calls: Vec<Operation> = (0..length)
+        let mut calls: Vec<Operation> = (0..length)
             .map(|_| operation(rng, &addresses, &habits))
             .collect();
+        calls.extend(addresses.iter().map(|address| Find(owner, *address)));
         let own = Own {
             owner,
             calls: &calls,
