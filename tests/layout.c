@@ -97,8 +97,10 @@ static int no_fault(vbus_fault a) {
 static int slave_id_is(vbus_slave_id a, uint32_t number, uint32_t product, uint32_t device, uint8_t week, uint32_t serial) {
     return a.number == number && a.product == product && a.device == device && a.week == week && a.serial == serial;
 }
-static int slave_is(vbus_slave a, uint16_t address, uint32_t product, uint32_t device) {
-    return a.address == address && a.product == product && a.device == device;
+static int slave_is(vbus_slave a, uint16_t address, bool owner, uint32_t product, uint32_t device) {
+    uint8_t byte; /* the owner's, so that a bool which is neither 0 nor 1 shows */
+    memcpy(&byte, &a.owner, 1);
+    return a.address == address && byte == (owner ? 1 : 0) && a.product == product && a.device == device;
 }
 static int slave_found_is(vbus_slave_found a, uint32_t number, uint32_t product, uint32_t device) {
     return a.number == number && a.product == product && a.device == device;
@@ -143,6 +145,7 @@ static const struct {
     NUMBER(VBUS_MAX_PAYLOAD, 508),
     NUMBER(VBUS_MAX_STREAM, 772),
     NUMBER(VBUS_SLAVES, 32),
+    NUMBER(VBUS_SLAVES_PER_OWNER, 24),
 };
 
 static void names(void) {
@@ -176,8 +179,8 @@ static void layouts(void) {
           offsetof(vbus_septets, length) == 16 && offsetof(vbus_septets, septet) == 24);
     CHECK(sizeof(vbus_slave_id) == 20 && offsetof(vbus_slave_id, number) == 0 && offsetof(vbus_slave_id, product) == 4 &&
           offsetof(vbus_slave_id, device) == 8 && offsetof(vbus_slave_id, week) == 12 && offsetof(vbus_slave_id, serial) == 16);
-    CHECK(sizeof(vbus_slave) == 12 && offsetof(vbus_slave, address) == 0 && offsetof(vbus_slave, product) == 4 &&
-          offsetof(vbus_slave, device) == 8);
+    CHECK(sizeof(vbus_slave) == 12 && offsetof(vbus_slave, address) == 0 && offsetof(vbus_slave, owner) == 2 &&
+          offsetof(vbus_slave, product) == 4 && offsetof(vbus_slave, device) == 8);
     CHECK(sizeof(vbus_slave_found) == 12 && offsetof(vbus_slave_found, number) == 0 &&
           offsetof(vbus_slave_found, product) == 4 && offsetof(vbus_slave_found, device) == 8);
     CHECK(sizeof(bool) == 1 && WIDTH(vbus_validation, verdict) == 1 && WIDTH(vbus_validation, offset) == 8 &&
@@ -191,7 +194,8 @@ static void layouts(void) {
           WIDTH(vbus_part, number) == 4 && WIDTH(vbus_part, length) == 8 && WIDTH(vbus_septets, number) == 4 &&
           WIDTH(vbus_septets, septet) == 1 && WIDTH(vbus_slave_id, number) == 4 && WIDTH(vbus_slave_id, device) == 4 &&
           WIDTH(vbus_slave_id, week) == 1 && WIDTH(vbus_slave_id, serial) == 4 && WIDTH(vbus_slave, address) == 2 &&
-          WIDTH(vbus_slave, device) == 4 && WIDTH(vbus_slave_found, number) == 4 && WIDTH(vbus_slave_found, device) == 4);
+          WIDTH(vbus_slave, owner) == 1 && WIDTH(vbus_slave, device) == 4 && WIDTH(vbus_slave_found, number) == 4 &&
+          WIDTH(vbus_slave_found, device) == 4);
 }
 
 static void checksum_and_septets(void) {
@@ -648,81 +652,177 @@ static void refused_slave_ids(void) {
     CHECK(painted(out, 0, sizeof out));
 }
 
-static vbus_slave slave(uint16_t address, uint32_t product, uint32_t device) {
+static vbus_slave slave(uint16_t address, bool owner, uint32_t product, uint32_t device) {
     vbus_slave made;
     memset(&made, 0xFF, sizeof made);
     made.address = address;
+    made.owner = owner;
     made.product = product;
     made.device = device;
     return made;
 }
 
-/* A table of 32 slaves with an entry behind it: 0x2100 to 0x210F, 0x2200 to 0x220F, and 0x2300. */
+/* A table of 32 slaves with an entry behind it: 0x2100 to 0x210F, 0x2200 to 0x220F, and 0x2300. Those with 0 to 7 as
+ * their last digit are of the one owner, those with 8 to F of the other. */
 #define ENTRIES (VBUS_SLAVES + 1)
+static vbus_slave numbered(size_t i) {
+    const uint32_t number = (uint32_t)i;
+    return slave((uint16_t)(0x2100 + 0x100 * (i / 16) + i % 16), i % 16 >= 8, 0x810000 + number, 0x920000 + number);
+}
 static void fill(vbus_slave table[ENTRIES]) {
-    for (uint16_t i = 0; i < ENTRIES; i++)
-        table[i] = slave((uint16_t)(0x2100 + 0x100 * (i / 16) + i % 16), 0x810000u + i, 0x920000u + i);
+    for (size_t i = 0; i < ENTRIES; i++) table[i] = numbered(i);
 }
 static int filled(const vbus_slave *table, size_t from, size_t to) {
-    for (size_t i = from; i < to; i++)
-        if (!slave_is(table[i], (uint16_t)(0x2100 + 0x100 * (i / 16) + i % 16), 0x810000u + (uint32_t)i, 0x920000u + (uint32_t)i))
-            return 0;
+    for (size_t i = from; i < to; i++) {
+        const vbus_slave a = numbered(i);
+        if (!slave_is(table[i], a.address, a.owner, a.product, a.device)) return 0;
+    }
     return 1;
 }
 
 static void slaves(void) {
     vbus_slave table[ENTRIES];
     memset(table, 0, sizeof table);
-    const vbus_slave first = slave(0x2345, 0xA3B2C1, 0xF7E5D4), second = slave(0x2010, 888888, 2344630);
-    CHECK(sizeof vbus_slave_enter(table, VBUS_SLAVES, first) == 4);
-    CHECK(vbus_slave_enter(table, VBUS_SLAVES, first) == 0 && slave_is(table[0], 0x2345, 0xA3B2C1, 0xF7E5D4));
-    CHECK(vbus_slave_enter(table, VBUS_SLAVES, second) == 0 && slave_is(table[1], 0x2010, 888888, 2344630));
-    CHECK(slave_found_is(vbus_slave_find(table, VBUS_SLAVES, 0x2345), 0, 0xA3B2C1, 0xF7E5D4));
-    CHECK(slave_found_is(vbus_slave_find(table, VBUS_SLAVES, 0x2010), 0, 888888, 2344630));
-    CHECK(vbus_slave_change_address(table, VBUS_SLAVES, 0x2345, 0x2F7F) == 0);
-    CHECK(slave_is(table[0], 0x2F7F, 0xA3B2C1, 0xF7E5D4) && slave_is(table[1], 0x2010, 888888, 2344630));
-    CHECK(vbus_slave_change_address(table, VBUS_SLAVES, 0x2F7F, 0x2F7F) == 0 && slave_is(table[0], 0x2F7F, 0xA3B2C1, 0xF7E5D4));
-    CHECK(vbus_slave_remove(table, VBUS_SLAVES, 0x2F7F) == 0 && slave_is(table[0], 0, 0, 0));
-    CHECK(slave_is(table[1], 0x2010, 888888, 2344630));
+    const size_t n = VBUS_SLAVES;
+    const vbus_slave first = slave(0x2345, true, 0xA3B2C1, 0xF7E5D4), second = slave(0x2010, false, 888888, 2344630);
+    CHECK(sizeof vbus_slave_enter(table, n, first) == 4);
+    CHECK(vbus_slave_enter(table, n, first) == 0 && slave_is(table[0], 0x2345, true, 0xA3B2C1, 0xF7E5D4));
+    CHECK(vbus_slave_enter(table, n, second) == 0 && slave_is(table[1], 0x2010, false, 888888, 2344630));
+    CHECK(slave_found_is(vbus_slave_find(table, n, true, 0x2345), 0, 0xA3B2C1, 0xF7E5D4));
+    CHECK(slave_found_is(vbus_slave_find(table, n, false, 0x2010), 0, 888888, 2344630));
+    CHECK(vbus_slave_change_address(table, n, true, 0x2345, 0x2F7F) == 0);
+    CHECK(slave_is(table[0], 0x2F7F, true, 0xA3B2C1, 0xF7E5D4) && slave_is(table[1], 0x2010, false, 888888, 2344630));
+    CHECK(vbus_slave_change_address(table, n, true, 0x2F7F, 0x2F7F) == 0 && slave_is(table[0], 0x2F7F, true, 0xA3B2C1, 0xF7E5D4));
+    CHECK(vbus_slave_remove(table, n, true, 0x2F7F) == 0 && slave_is(table[0], 0, false, 0, 0));
+    CHECK(slave_is(table[1], 0x2010, false, 888888, 2344630));
     /* the lowest free entry, which is the first again */
-    CHECK(vbus_slave_enter(table, VBUS_SLAVES, first) == 0 && slave_is(table[0], 0x2345, 0xA3B2C1, 0xF7E5D4));
-    for (size_t i = 2; i < ENTRIES; i++) CHECK(slave_is(table[i], 0, 0, 0));
+    CHECK(vbus_slave_enter(table, n, first) == 0 && slave_is(table[0], 0x2345, true, 0xA3B2C1, 0xF7E5D4));
+    for (size_t i = 2; i < ENTRIES; i++) CHECK(slave_is(table[i], 0, false, 0, 0));
 
     /* the last entry, and none behind it */
     fill(table);
-    CHECK(slave_found_is(vbus_slave_find(table, VBUS_SLAVES, 0x220F), 0, 0x81001F, 0x92001F));
-    CHECK(slave_found_is(vbus_slave_find(table, VBUS_SLAVES, 0x2300), VBUS_NO_SUCH_ADDRESS, 0, 0));
-    CHECK(vbus_slave_remove(table, VBUS_SLAVES, 0x220F) == 0 && slave_is(table[31], 0, 0, 0));
-    CHECK(vbus_slave_enter(table, VBUS_SLAVES, first) == 0 && slave_is(table[31], 0x2345, 0xA3B2C1, 0xF7E5D4));
+    CHECK(slave_found_is(vbus_slave_find(table, n, true, 0x220F), 0, 0x81001F, 0x92001F));
+    CHECK(slave_found_is(vbus_slave_find(table, n, false, 0x2300), VBUS_NO_SUCH_ADDRESS, 0, 0));
+    CHECK(vbus_slave_remove(table, n, true, 0x220F) == 0 && slave_is(table[31], 0, false, 0, 0));
+    CHECK(vbus_slave_enter(table, n, first) == 0 && slave_is(table[31], 0x2345, true, 0xA3B2C1, 0xF7E5D4));
     CHECK(filled(table, 0, 31) && filled(table, 32, ENTRIES));
 }
 
-/* Tables as no calls leave them: an address twice, of which the lower index counts; an address that no slave has, with
- * identifiers that are too large; a free entry with identifiers. No other byte of the table changes. */
+/* The same address under both owners: each finds, changes and removes its own, whichever entry is the lower one. */
+static void two_owners(void) {
+    vbus_slave table[ENTRIES];
+    const size_t n = VBUS_SLAVES;
+    for (int one = 0; one < 2; one++) {
+        const bool own = one == 1, other = one == 0;
+        memset(table, 0, sizeof table);
+        CHECK(vbus_slave_enter(table, n, slave(0x2010, own, 1, 2)) == 0);
+        CHECK(slave_found_is(vbus_slave_find(table, n, other, 0x2010), VBUS_NO_SUCH_ADDRESS, 0, 0));
+        CHECK(vbus_slave_change_address(table, n, other, 0x2010, 0x2020) == VBUS_NO_SUCH_ADDRESS);
+        CHECK(vbus_slave_remove(table, n, other, 0x2010) == VBUS_NO_SUCH_ADDRESS);
+        CHECK(vbus_slave_enter(table, n, slave(0x2010, other, 3, 4)) == 0);
+        CHECK(slave_is(table[0], 0x2010, own, 1, 2) && slave_is(table[1], 0x2010, other, 3, 4));
+        CHECK(vbus_slave_enter(table, n, slave(0x2010, own, 5, 6)) == VBUS_ADDRESS_TAKEN);
+        CHECK(vbus_slave_enter(table, n, slave(0x2010, other, 5, 6)) == VBUS_ADDRESS_TAKEN);
+        CHECK(slave_found_is(vbus_slave_find(table, n, own, 0x2010), 0, 1, 2));
+        CHECK(slave_found_is(vbus_slave_find(table, n, other, 0x2010), 0, 3, 4));
+        CHECK(vbus_slave_change_address(table, n, other, 0x2010, 0x2020) == 0);
+        CHECK(slave_is(table[0], 0x2010, own, 1, 2) && slave_is(table[1], 0x2020, other, 3, 4));
+        CHECK(vbus_slave_change_address(table, n, other, 0x2020, 0x2010) == 0);
+        CHECK(vbus_slave_remove(table, n, other, 0x2010) == 0 && slave_is(table[1], 0, false, 0, 0));
+        CHECK(slave_is(table[0], 0x2010, own, 1, 2));
+        CHECK(vbus_slave_remove(table, n, own, 0x2010) == 0 && slave_is(table[0], 0, false, 0, 0));
+    }
+}
+
+/* Enters so many slaves of an owner, from 0x2100 on. */
+static int entered(vbus_slave *table, bool owner, uint16_t count) {
+    for (uint16_t i = 0; i < count; i++)
+        if (vbus_slave_enter(table, VBUS_SLAVES, slave((uint16_t)(0x2100 + i), owner, i, i)) != 0) return 0;
+    return 1;
+}
+
+/* From the empty table on: 24 of the one owner and 8 of the other; the 25th though entries are free, the ninth once
+ * none is. */
+static void shares(void) {
+    vbus_slave table[ENTRIES], before[ENTRIES];
+    const size_t n = VBUS_SLAVES;
+    for (int one = 0; one < 2; one++) {
+        const bool own = one == 1, other = one == 0;
+        memset(table, 0, sizeof table);
+        CHECK(entered(table, own, 24));
+        memcpy(before, table, sizeof before);
+        CHECK(vbus_slave_enter(table, n, slave(0x2200, own, 0, 0)) == VBUS_TABLE_FULL);
+        CHECK(vbus_slave_enter(table, n, slave(0x2100, own, 0, 0)) == VBUS_ADDRESS_TAKEN);
+        CHECK(memcmp(table, before, sizeof before) == 0);
+        CHECK(entered(table, other, 8));
+        memcpy(before, table, sizeof before);
+        CHECK(vbus_slave_enter(table, n, slave(0x2200, own, 0, 0)) == VBUS_TABLE_FULL);
+        CHECK(vbus_slave_enter(table, n, slave(0x2200, other, 0, 0)) == VBUS_TABLE_FULL);
+        CHECK(memcmp(table, before, sizeof before) == 0);
+        /* an entry that the other gives up isn't for the one; one that the one gives up is for the other */
+        CHECK(vbus_slave_remove(table, n, other, 0x2107) == 0);
+        CHECK(vbus_slave_enter(table, n, slave(0x2200, own, 0, 0)) == VBUS_TABLE_FULL);
+        CHECK(vbus_slave_enter(table, n, slave(0x2200, other, 3, 4)) == 0 && slave_is(table[31], 0x2200, other, 3, 4));
+        CHECK(vbus_slave_remove(table, n, own, 0x2107) == 0);
+        CHECK(vbus_slave_enter(table, n, slave(0x2201, other, 5, 6)) == 0 && slave_is(table[7], 0x2201, other, 5, 6));
+        CHECK(vbus_slave_enter(table, n, slave(0x2107, own, 0, 0)) == VBUS_TABLE_FULL);
+    }
+}
+
+/* Tables as no calls leave them: an address twice under an owner, of which the lower index counts, and lower still under
+ * the other; an address that no slave has, with identifiers that are too large; a free entry with an owner and
+ * identifiers. No other byte of the table changes. */
 static void slaves_brought_in(void) {
     vbus_slave table[ENTRIES], expected[ENTRIES];
     const size_t n = VBUS_SLAVES;
     fill(table);
     table[20].address = 0x2103;
-    table[8] = slave(0x2008, 0xFFFFFFFF, 0x80000000);
+    table[8] = slave(0x2008, true, 0xFFFFFFFF, 0x80000000);
     table[2].address = 0;
+    table[1] = slave(0x2103, true, 1, 2);
     memcpy(expected, table, sizeof expected);
-    CHECK(slave_found_is(vbus_slave_find(table, n, 0x2103), 0, 0x810003, 0x920003));
-    CHECK(slave_found_is(vbus_slave_find(table, n, 0x2008), 0, 0xFFFFFFFF, 0x80000000));
-    CHECK(vbus_slave_change_address(table, n, 0x2103, 0x2103) == 0 && slave_is(table[3], 0x2103, 0x810003, 0x920003));
-    CHECK(vbus_slave_change_address(table, n, 0x2103, 0x2400) == 0 && slave_is(table[3], 0x2400, 0x810003, 0x920003));
-    CHECK(slave_found_is(vbus_slave_find(table, n, 0x2103), 0, 0x810014, 0x920014));
-    CHECK(vbus_slave_change_address(table, n, 0x2008, 0x2108) == 0 && slave_is(table[8], 0x2108, 0xFFFFFFFF, 0x80000000));
-    CHECK(vbus_slave_enter(table, n, slave(0x2401, 1, 0x1000000)) == VBUS_NOT_SLAVE_ID);
-    CHECK(slave_is(table[2], 0, 0x810002, 0x920002));
-    CHECK(vbus_slave_enter(table, n, slave(0x2401, 1, 2)) == 0 && slave_is(table[2], 0x2401, 1, 2));
+    CHECK(slave_found_is(vbus_slave_find(table, n, false, 0x2103), 0, 0x810003, 0x920003));
+    CHECK(slave_found_is(vbus_slave_find(table, n, true, 0x2103), 0, 1, 2));
+    CHECK(slave_found_is(vbus_slave_find(table, n, true, 0x2008), 0, 0xFFFFFFFF, 0x80000000));
+    CHECK(vbus_slave_change_address(table, n, false, 0x2103, 0x2103) == 0 && slave_is(table[3], 0x2103, false, 0x810003, 0x920003));
+    CHECK(vbus_slave_change_address(table, n, false, 0x2103, 0x2400) == 0 && slave_is(table[3], 0x2400, false, 0x810003, 0x920003));
+    CHECK(slave_found_is(vbus_slave_find(table, n, false, 0x2103), 0, 0x810014, 0x920014));
+    CHECK(vbus_slave_change_address(table, n, true, 0x2008, 0x2108) == 0 && slave_is(table[8], 0x2108, true, 0xFFFFFFFF, 0x80000000));
+    CHECK(vbus_slave_enter(table, n, slave(0x2401, true, 1, 0x1000000)) == VBUS_NOT_SLAVE_ID);
+    CHECK(slave_is(table[2], 0, false, 0x810002, 0x920002));
+    CHECK(vbus_slave_enter(table, n, slave(0x2401, true, 1, 2)) == 0 && slave_is(table[2], 0x2401, true, 1, 2));
     memcpy(expected + 2, table + 2, 2 * sizeof *table);
     memcpy(expected + 8, table + 8, sizeof *table);
     CHECK(memcmp(table, expected, sizeof table) == 0);
     table[9].address = table[10].address = expected[10].address = 0xFFFF;
-    CHECK(vbus_slave_remove(table, n, 0xFFFF) == 0 && slave_is(table[9], 0, 0, 0));
+    CHECK(vbus_slave_remove(table, n, true, 0xFFFF) == 0 && slave_is(table[9], 0, false, 0, 0));
     memcpy(expected + 9, table + 9, sizeof *table);
     CHECK(memcmp(table, expected, sizeof table) == 0);
+}
+
+/* Numbers of entries as no calls leave them: an owner with more than it may hold keeps them; a free entry counts for
+ * nobody, whatever owner it names. */
+static void shares_brought_in(void) {
+    vbus_slave table[ENTRIES];
+    const size_t n = VBUS_SLAVES;
+    for (int one = 0; one < 2; one++) {
+        const bool own = one == 1, other = one == 0;
+        fill(table);
+        for (size_t i = 0; i < VBUS_SLAVES; i++) table[i].owner = own;
+        for (uint16_t i = 0; i < 8; i++) {
+            CHECK(vbus_slave_enter(table, n, slave(0x2400, own, 0, 0)) == VBUS_TABLE_FULL);
+            CHECK(vbus_slave_enter(table, n, slave(0x2400, other, 0, 0)) == VBUS_TABLE_FULL);
+            CHECK(vbus_slave_remove(table, n, own, (uint16_t)(0x2100 + i)) == 0);
+            /* free again, but in name the owner's */
+            table[i].owner = own;
+            CHECK(vbus_slave_enter(table, n, slave(0x2400, own, 0, 0)) == VBUS_TABLE_FULL);
+            CHECK(vbus_slave_enter(table, n, slave(0x2400, other, 0, 0)) == 0 && slave_is(table[i], 0x2400, other, 0, 0));
+            CHECK(vbus_slave_change_address(table, n, other, 0x2400, (uint16_t)(0x2401 + i)) == 0);
+        }
+        CHECK(vbus_slave_remove(table, n, own, 0x220F) == 0);
+        table[31].owner = own;
+        CHECK(vbus_slave_enter(table, n, slave(0x2400, own, 1, 2)) == 0 && slave_is(table[31], 0x2400, own, 1, 2));
+    }
 }
 
 /* Each with all that comes behind it in the order; nothing in the table changes. */
@@ -732,39 +832,43 @@ static void refused_slaves(void) {
     table[8].address = 0x2008; /* brought in: no slave has it */
     memcpy(before, table, sizeof before);
     const size_t n = VBUS_SLAVES;
-    CHECK(vbus_slave_enter(table, n, slave(0x2008, 0x1000000, 0)) == VBUS_NOT_SLAVE_ADDRESS);
-    CHECK(vbus_slave_enter(table, n, slave(0x0000, 0, 0)) == VBUS_NOT_SLAVE_ADDRESS);
-    CHECK(vbus_slave_enter(table, n, slave(0x2080, 0, 0)) == VBUS_NOT_SLAVE_ADDRESS);
-    CHECK(vbus_slave_enter(table, n, slave(0xA010, 0, 0)) == VBUS_NOT_SLAVE_ADDRESS);
-    CHECK(vbus_slave_enter(table, n, slave(0x3010, 0, 0)) == VBUS_NOT_SLAVE_ADDRESS);
-    CHECK(vbus_slave_enter(table, n, slave(0x2100, 0x1000000, 0)) == VBUS_NOT_SLAVE_ID);
-    CHECK(vbus_slave_enter(table, n, slave(0x2100, 0, 0xFFFFFFFF)) == VBUS_NOT_SLAVE_ID);
-    CHECK(vbus_slave_enter(table, n, slave(0x2100, 0, 0)) == VBUS_ADDRESS_TAKEN);
-    CHECK(vbus_slave_enter(table, n, slave(0x2400, 0, 0)) == VBUS_TABLE_FULL);
-    CHECK(vbus_slave_change_address(table, n, 0x2400, 0x2008) == VBUS_NOT_SLAVE_ADDRESS);
-    CHECK(vbus_slave_change_address(table, n, 0x2008, 0x2008) == VBUS_NOT_SLAVE_ADDRESS);
-    CHECK(vbus_slave_change_address(table, n, 0x2400, 0x2100) == VBUS_NO_SUCH_ADDRESS);
-    CHECK(vbus_slave_change_address(table, n, 0, 0x2400) == VBUS_NO_SUCH_ADDRESS);
-    CHECK(vbus_slave_change_address(table, n, 0x2100, 0x2101) == VBUS_ADDRESS_TAKEN);
-    CHECK(slave_found_is(vbus_slave_find(table, n, 0x2400), VBUS_NO_SUCH_ADDRESS, 0, 0));
-    CHECK(vbus_slave_remove(table, n, 0x2400) == VBUS_NO_SUCH_ADDRESS);
+    CHECK(vbus_slave_enter(table, n, slave(0x2008, true, 0x1000000, 0)) == VBUS_NOT_SLAVE_ADDRESS);
+    CHECK(vbus_slave_enter(table, n, slave(0x0000, true, 0, 0)) == VBUS_NOT_SLAVE_ADDRESS);
+    CHECK(vbus_slave_enter(table, n, slave(0x2080, true, 0, 0)) == VBUS_NOT_SLAVE_ADDRESS);
+    CHECK(vbus_slave_enter(table, n, slave(0xA010, false, 0, 0)) == VBUS_NOT_SLAVE_ADDRESS);
+    CHECK(vbus_slave_enter(table, n, slave(0x3010, false, 0, 0)) == VBUS_NOT_SLAVE_ADDRESS);
+    CHECK(vbus_slave_enter(table, n, slave(0x2100, false, 0x1000000, 0)) == VBUS_NOT_SLAVE_ID);
+    CHECK(vbus_slave_enter(table, n, slave(0x2100, false, 0, 0xFFFFFFFF)) == VBUS_NOT_SLAVE_ID);
+    CHECK(vbus_slave_enter(table, n, slave(0x2100, false, 0, 0)) == VBUS_ADDRESS_TAKEN);
+    CHECK(vbus_slave_enter(table, n, slave(0x2100, true, 0, 0)) == VBUS_TABLE_FULL);
+    CHECK(vbus_slave_enter(table, n, slave(0x2400, false, 0, 0)) == VBUS_TABLE_FULL);
+    CHECK(vbus_slave_change_address(table, n, true, 0x2400, 0x2008) == VBUS_NOT_SLAVE_ADDRESS);
+    CHECK(vbus_slave_change_address(table, n, true, 0x2008, 0x2008) == VBUS_NOT_SLAVE_ADDRESS);
+    CHECK(vbus_slave_change_address(table, n, false, 0x2400, 0x2100) == VBUS_NO_SUCH_ADDRESS);
+    CHECK(vbus_slave_change_address(table, n, true, 0x2100, 0x2400) == VBUS_NO_SUCH_ADDRESS);
+    CHECK(vbus_slave_change_address(table, n, false, 0, 0x2400) == VBUS_NO_SUCH_ADDRESS);
+    CHECK(vbus_slave_change_address(table, n, false, 0x2100, 0x2101) == VBUS_ADDRESS_TAKEN);
+    CHECK(slave_found_is(vbus_slave_find(table, n, false, 0x2400), VBUS_NO_SUCH_ADDRESS, 0, 0));
+    CHECK(slave_found_is(vbus_slave_find(table, n, true, 0x2100), VBUS_NO_SUCH_ADDRESS, 0, 0));
+    CHECK(vbus_slave_remove(table, n, false, 0x2400) == VBUS_NO_SUCH_ADDRESS);
+    CHECK(vbus_slave_remove(table, n, true, 0x2100) == VBUS_NO_SUCH_ADDRESS);
     const size_t lengths[] = {1, 31, 33};
     for (size_t i = 0; i < 3; i++) {
-        CHECK(vbus_slave_enter(table, lengths[i], slave(0x2008, 0x1000000, 0)) == VBUS_WRONG_TABLE_LENGTH);
-        CHECK(vbus_slave_enter(table, lengths[i], slave(0x2400, 0, 0)) == VBUS_WRONG_TABLE_LENGTH);
-        CHECK(slave_found_is(vbus_slave_find(table, lengths[i], 0x2100), VBUS_WRONG_TABLE_LENGTH, 0, 0));
-        CHECK(slave_found_is(vbus_slave_find(table, lengths[i], 0), VBUS_WRONG_TABLE_LENGTH, 0, 0));
-        CHECK(vbus_slave_change_address(table, lengths[i], 0x2100, 0x2400) == VBUS_WRONG_TABLE_LENGTH);
-        CHECK(vbus_slave_change_address(table, lengths[i], 0, 0) == VBUS_WRONG_TABLE_LENGTH);
-        CHECK(vbus_slave_remove(table, lengths[i], 0x2100) == VBUS_WRONG_TABLE_LENGTH);
-        CHECK(vbus_slave_remove(table, lengths[i], 0) == VBUS_WRONG_TABLE_LENGTH);
+        CHECK(vbus_slave_enter(table, lengths[i], slave(0x2008, true, 0x1000000, 0)) == VBUS_WRONG_TABLE_LENGTH);
+        CHECK(vbus_slave_enter(table, lengths[i], slave(0x2400, true, 0, 0)) == VBUS_WRONG_TABLE_LENGTH);
+        CHECK(slave_found_is(vbus_slave_find(table, lengths[i], false, 0x2100), VBUS_WRONG_TABLE_LENGTH, 0, 0));
+        CHECK(slave_found_is(vbus_slave_find(table, lengths[i], true, 0), VBUS_WRONG_TABLE_LENGTH, 0, 0));
+        CHECK(vbus_slave_change_address(table, lengths[i], false, 0x2100, 0x2400) == VBUS_WRONG_TABLE_LENGTH);
+        CHECK(vbus_slave_change_address(table, lengths[i], true, 0, 0) == VBUS_WRONG_TABLE_LENGTH);
+        CHECK(vbus_slave_remove(table, lengths[i], false, 0x2100) == VBUS_WRONG_TABLE_LENGTH);
+        CHECK(vbus_slave_remove(table, lengths[i], true, 0) == VBUS_WRONG_TABLE_LENGTH);
     }
     CHECK(memcmp(table, before, sizeof before) == 0);
     /* a free entry is never found, whatever it has besides its address */
     table[8].address = before[8].address = 0;
-    CHECK(slave_found_is(vbus_slave_find(table, n, 0), VBUS_NO_SUCH_ADDRESS, 0, 0));
-    CHECK(vbus_slave_remove(table, n, 0) == VBUS_NO_SUCH_ADDRESS);
-    CHECK(vbus_slave_change_address(table, n, 0, 0x2400) == VBUS_NO_SUCH_ADDRESS);
+    CHECK(slave_found_is(vbus_slave_find(table, n, true, 0), VBUS_NO_SUCH_ADDRESS, 0, 0));
+    CHECK(vbus_slave_remove(table, n, true, 0) == VBUS_NO_SUCH_ADDRESS);
+    CHECK(vbus_slave_change_address(table, n, true, 0, 0x2400) == VBUS_NO_SUCH_ADDRESS);
     CHECK(memcmp(table, before, sizeof before) == 0);
 }
 
@@ -804,10 +908,10 @@ static void null_with_zero(void) {
     /* nor is anything of a table whose count is wrong, here that of its bytes too */
     const size_t counts[] = {0, 1, 31, 33, VBUS_SLAVES * sizeof(vbus_slave), (size_t)-1};
     for (size_t i = 0; i < sizeof counts / sizeof *counts; i++) {
-        CHECK(vbus_slave_enter(NULL, counts[i], slave(0x2010, 0, 0)) == VBUS_WRONG_TABLE_LENGTH);
-        CHECK(slave_found_is(vbus_slave_find(NULL, counts[i], 0x2010), VBUS_WRONG_TABLE_LENGTH, 0, 0));
-        CHECK(vbus_slave_change_address(NULL, counts[i], 0x2010, 0x2011) == VBUS_WRONG_TABLE_LENGTH);
-        CHECK(vbus_slave_remove(NULL, counts[i], 0x2010) == VBUS_WRONG_TABLE_LENGTH);
+        CHECK(vbus_slave_enter(NULL, counts[i], slave(0x2010, true, 0, 0)) == VBUS_WRONG_TABLE_LENGTH);
+        CHECK(slave_found_is(vbus_slave_find(NULL, counts[i], true, 0x2010), VBUS_WRONG_TABLE_LENGTH, 0, 0));
+        CHECK(vbus_slave_change_address(NULL, counts[i], true, 0x2010, 0x2011) == VBUS_WRONG_TABLE_LENGTH);
+        CHECK(vbus_slave_remove(NULL, counts[i], true, 0x2010) == VBUS_WRONG_TABLE_LENGTH);
     }
 }
 
@@ -832,7 +936,10 @@ int main(void) {
     slave_ids();
     refused_slave_ids();
     slaves();
+    two_owners();
+    shares();
     slaves_brought_in();
+    shares_brought_in();
     refused_slaves();
     null_with_zero();
     printf("%u passed, %u failed\n", passed, failed);

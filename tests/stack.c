@@ -41,6 +41,7 @@ static struct {
     uint8_t *out;
     size_t room;
     vbus_slave slave;
+    bool owner;
     uint16_t from, to;
 } call;
 
@@ -73,9 +74,9 @@ static EMPTY vbus_part no_element(UNUSED vbus_header a, UNUSED const uint8_t *b,
 static EMPTY vbus_slave_id no_read_slave_id(UNUSED vbus_header a, UNUSED const uint8_t *b, UNUSED size_t c) { static vbus_slave_id z; __asm__(""); return z; }
 static EMPTY vbus_written no_write_slave_id(UNUSED uint16_t a, UNUSED uint16_t b, UNUSED uint32_t c, UNUSED uint32_t d, UNUSED uint8_t *e, UNUSED size_t f) { static vbus_written z; __asm__(""); return z; }
 static EMPTY uint32_t no_slave_enter(UNUSED vbus_slave *a, UNUSED size_t b, UNUSED vbus_slave c) { __asm__(""); return 0; }
-static EMPTY vbus_slave_found no_slave_find(UNUSED const vbus_slave *a, UNUSED size_t b, UNUSED uint16_t c) { static vbus_slave_found z; __asm__(""); return z; }
-static EMPTY uint32_t no_slave_change_address(UNUSED vbus_slave *a, UNUSED size_t b, UNUSED uint16_t c, UNUSED uint16_t d) { __asm__(""); return 0; }
-static EMPTY uint32_t no_slave_remove(UNUSED vbus_slave *a, UNUSED size_t b, UNUSED uint16_t c) { __asm__(""); return 0; }
+static EMPTY vbus_slave_found no_slave_find(UNUSED const vbus_slave *a, UNUSED size_t b, UNUSED bool c, UNUSED uint16_t d) { static vbus_slave_found z; __asm__(""); return z; }
+static EMPTY uint32_t no_slave_change_address(UNUSED vbus_slave *a, UNUSED size_t b, UNUSED bool c, UNUSED uint16_t d, UNUSED uint16_t e) { __asm__(""); return 0; }
+static EMPTY uint32_t no_slave_remove(UNUSED vbus_slave *a, UNUSED size_t b, UNUSED bool c, UNUSED uint16_t d) { __asm__(""); return 0; }
 
 /* The export and the empty function go through one pointer, so that both are called by the same code. */
 static uint8_t (*volatile f_checksum)(const uint8_t *, size_t);
@@ -97,9 +98,9 @@ static vbus_part (*volatile f_element)(vbus_header, const uint8_t *, size_t, siz
 static vbus_slave_id (*volatile f_read_slave_id)(vbus_header, const uint8_t *, size_t);
 static vbus_written (*volatile f_write_slave_id)(uint16_t, uint16_t, uint32_t, uint32_t, uint8_t *, size_t);
 static uint32_t (*volatile f_slave_enter)(vbus_slave *, size_t, vbus_slave);
-static vbus_slave_found (*volatile f_slave_find)(const vbus_slave *, size_t, uint16_t);
-static uint32_t (*volatile f_slave_change_address)(vbus_slave *, size_t, uint16_t, uint16_t);
-static uint32_t (*volatile f_slave_remove)(vbus_slave *, size_t, uint16_t);
+static vbus_slave_found (*volatile f_slave_find)(const vbus_slave *, size_t, bool, uint16_t);
+static uint32_t (*volatile f_slave_change_address)(vbus_slave *, size_t, bool, uint16_t, uint16_t);
+static uint32_t (*volatile f_slave_remove)(vbus_slave *, size_t, bool, uint16_t);
 
 static void choose(int empty) {
     f_checksum = empty ? no_checksum : vbus_checksum;
@@ -172,9 +173,9 @@ static void run(void) {
     case READ_SLAVE_ID: answer.slave_id = f_read_slave_id(call.header, call.input, call.n); break;
     case WRITE_SLAVE_ID: answer.written = f_write_slave_id(call.to, call.from, call.slave.product, call.slave.device, call.out, call.room); break;
     case SLAVE_ENTER: answer.number = f_slave_enter(table, call.n, call.slave); break;
-    case SLAVE_FIND: answer.slave_found = f_slave_find(table, call.n, call.from); break;
-    case SLAVE_CHANGE_ADDRESS: answer.number = f_slave_change_address(table, call.n, call.from, call.to); break;
-    case SLAVE_REMOVE: answer.number = f_slave_remove(table, call.n, call.from); break;
+    case SLAVE_FIND: answer.slave_found = f_slave_find(table, call.n, call.owner, call.from); break;
+    case SLAVE_CHANGE_ADDRESS: answer.number = f_slave_change_address(table, call.n, call.owner, call.from, call.to); break;
+    case SLAVE_REMOVE: answer.number = f_slave_remove(table, call.n, call.owner, call.from); break;
     }
     /* here, and without a call: what follows on this stack, back to main's, would count too */
     size_t low = 0;
@@ -485,10 +486,10 @@ static void slave_ids(void) {
     }
 }
 
-/* every call on the table in `entries`, with addresses that it has and others */
-static void table_of(size_t n) {
+/* every call of an owner on the table in `entries`, with addresses that it has and others */
+static void calls_of(bool owner) {
     static const uint16_t addresses[7] = {0x2100, 0x210F, 0x211F, 0x2F7F, 0x2000, 0xA010, 0};
-    call.n = n;
+    call.owner = call.slave.owner = owner;
     for (int i = 0; i < 7; i++) {
         call.from = addresses[i];
         measure(SLAVE_FIND);
@@ -503,22 +504,38 @@ static void table_of(size_t n) {
     }
 }
 
-/* tables of right and wrong lengths: empty, full, and with one entry free, each in turn */
+static void table_of(size_t n) {
+    call.n = n;
+    calls_of(false);
+    calls_of(true);
+}
+
+/* A table in which the first `share` entries are the one owner's and the others the other's: full, and with one entry
+ * free, each in turn. */
+static void shared(size_t n, size_t share) {
+    for (size_t k = 0; k < ENTRIES; k++) {
+        entries[k].address = (uint16_t)(0x2100 + k);
+        entries[k].owner = k < share;
+        entries[k].product = entries[k].device = (uint32_t)(1000 * k);
+    }
+    table_of(n);
+    for (size_t k = 0; k < n; k++) {
+        entries[k].address = 0;
+        table_of(n);
+        entries[k].address = (uint16_t)(0x2100 + k);
+    }
+}
+
+/* tables of right and wrong lengths, empty and shared; in those of the right length owners hold all, as many as they
+ * may, one more and one less, half, and none */
 static void slaves(void) {
     static const size_t lengths[6] = {0, 1, 31, VBUS_SLAVES, 33, ENTRIES};
+    static const size_t shares[6] = {0, 16, VBUS_SLAVES_PER_OWNER - 1, VBUS_SLAVES_PER_OWNER, VBUS_SLAVES_PER_OWNER + 1, VBUS_SLAVES};
     for (int i = 0; i < 6; i++) {
         memset(entries, 0, sizeof entries);
         table_of(lengths[i]);
-        for (size_t k = 0; k < ENTRIES; k++) {
-            entries[k].address = (uint16_t)(0x2100 + k);
-            entries[k].product = entries[k].device = (uint32_t)(1000 * k);
-        }
-        table_of(lengths[i]);
-        for (size_t k = 0; k < lengths[i]; k++) {
-            entries[k].address = 0;
-            table_of(lengths[i]);
-            entries[k].address = (uint16_t)(0x2100 + k);
-        }
+        for (int j = 0; j < 6; j++)
+            if (lengths[i] == VBUS_SLAVES || shares[j] == 16) shared(lengths[i], shares[j]);
     }
 }
 

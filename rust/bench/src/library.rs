@@ -99,19 +99,24 @@ pub fn slave_enter(table: &mut [vbus_sys::Slave], slave: vbus_sys::Slave) -> u32
 }
 
 #[inline(always)]
-pub fn slave_find(table: &mut [vbus_sys::Slave], address: u16) -> vbus_sys::SlaveFound {
+pub fn slave_find(
+    table: &mut [vbus_sys::Slave],
+    owner: bool,
+    address: u16,
+) -> vbus_sys::SlaveFound {
     // SAFETY: pointer and count are those of a slice.
-    unsafe { vbus_sys::vbus_slave_find(table.as_ptr(), table.len(), address) }
+    unsafe { vbus_sys::vbus_slave_find(table.as_ptr(), table.len(), owner, address) }
 }
 
 #[inline(always)]
-pub fn slave_change_address(table: &mut [vbus_sys::Slave], from: u16, to: u16) -> u32 {
+pub fn slave_change_address(table: &mut [vbus_sys::Slave], owner: bool, from: u16, to: u16) -> u32 {
+    let (pointer, n) = (table.as_mut_ptr(), table.len());
     // SAFETY: pointer and count are those of a slice.
-    unsafe { vbus_sys::vbus_slave_change_address(table.as_mut_ptr(), table.len(), from, to) }
+    unsafe { vbus_sys::vbus_slave_change_address(pointer, n, owner, from, to) }
 }
 
 #[inline(always)]
-pub fn slave_remove(table: &mut [vbus_sys::Slave], address: u16) -> u32 {
+pub fn slave_remove(table: &mut [vbus_sys::Slave], owner: bool, address: u16) -> u32 {
     // SAFETY: pointer and count are those of a slice.
-    unsafe { vbus_sys::vbus_slave_remove(table.as_mut_ptr(), table.len(), address) }
+    unsafe { vbus_sys::vbus_slave_remove(table.as_mut_ptr(), table.len(), owner, address) }
 }

@@ -77,18 +77,27 @@ fn ref_slave_enter(table: &mut [reference::Slave], slave: reference::Slave) -> u
 }
 
 #[inline(never)]
-fn ref_slave_find(table: &mut [reference::Slave], address: u16) -> reference::SlaveFound {
-    reference::slave_find(table, address)
+fn ref_slave_find(
+    table: &mut [reference::Slave],
+    owner: bool,
+    address: u16,
+) -> reference::SlaveFound {
+    reference::slave_find(table, owner, address)
 }
 
 #[inline(never)]
-fn ref_slave_change_address(table: &mut [reference::Slave], from: u16, to: u16) -> u32 {
-    reference::slave_change_address(table, from, to)
+fn ref_slave_change_address(
+    table: &mut [reference::Slave],
+    owner: bool,
+    from: u16,
+    to: u16,
+) -> u32 {
+    reference::slave_change_address(table, owner, from, to)
 }
 
 #[inline(never)]
-fn ref_slave_remove(table: &mut [reference::Slave], address: u16) -> u32 {
-    reference::slave_remove(table, address)
+fn ref_slave_remove(table: &mut [reference::Slave], owner: bool, address: u16) -> u32 {
+    reference::slave_remove(table, owner, address)
 }
 
 // What is timed. Each answers with a number that depends on every answer it got.
@@ -178,13 +187,15 @@ macro_rules! receive_all {
     }};
 }
 
-/// A call on a table whose last entry is free, and 32 slaves, all but the last of them in it. The call
-/// puts right before what it changed the last time.
+/// A call on a table whose last entry is free, and 32 slaves, all but the last of them in it: 16 and 15
+/// of the two owners. The last of those and the one that isn't there are of the same owner. The call puts
+/// right before what it changed the last time.
 macro_rules! on_table {
     ($slave:ty, |$table:ident, $slaves:ident| $call:expr) => {{
         type Slave = $slave;
         let slaves: [Slave; 32] = std::array::from_fn(|i| Slave {
             address: 0x2010 + 0x100 * (i as u16 / 7) + 0x10 * (i as u16 % 7),
+            owner: i >= 16,
             product: 888_888,
             device: 17 * 131_072 + i as u32,
         });
@@ -526,32 +537,38 @@ fn slaves() {
     table_row(
         "find the last of 31 slaves",
         on_table!(vbus_sys::Slave, |table, slaves| {
-            lib::slave_find(table, slaves[30].address).device as usize
+            let Slave { owner, address, .. } = slaves[30];
+            lib::slave_find(table, owner, address).device as usize
         }),
         on_table!(reference::Slave, |table, slaves| {
-            ref_slave_find(table, slaves[30].address).device as usize
+            let Slave { owner, address, .. } = slaves[30];
+            ref_slave_find(table, owner, address).device as usize
         }),
     );
     table_row(
         "change_address of the last of 31 slaves",
         on_table!(vbus_sys::Slave, |table, slaves| {
             table[30].address = slaves[30].address;
-            lib::slave_change_address(table, slaves[30].address, slaves[31].address) as usize
+            let Slave { owner, address, .. } = slaves[30];
+            lib::slave_change_address(table, owner, address, slaves[31].address) as usize
         }),
         on_table!(reference::Slave, |table, slaves| {
             table[30].address = slaves[30].address;
-            ref_slave_change_address(table, slaves[30].address, slaves[31].address) as usize
+            let Slave { owner, address, .. } = slaves[30];
+            ref_slave_change_address(table, owner, address, slaves[31].address) as usize
         }),
     );
     table_row(
         "remove the last of 31 slaves",
         on_table!(vbus_sys::Slave, |table, slaves| {
             table[30] = slaves[30];
-            lib::slave_remove(table, slaves[30].address) as usize
+            let Slave { owner, address, .. } = slaves[30];
+            lib::slave_remove(table, owner, address) as usize
         }),
         on_table!(reference::Slave, |table, slaves| {
             table[30] = slaves[30];
-            ref_slave_remove(table, slaves[30].address) as usize
+            let Slave { owner, address, .. } = slaves[30];
+            ref_slave_remove(table, owner, address) as usize
         }),
     );
 }
