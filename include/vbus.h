@@ -330,8 +330,8 @@ vbus_written vbus_write_slave_id(uint16_t destination, uint16_t source, uint32_t
  * with the same address. Calls never make an address stand in two entries of an owner; in a table brought in that has
  * one twice, the owner's entry with the lower index counts. An owner may hold VBUS_SLAVES_PER_OWNER entries; one that
  * was brought in with more keeps them, and gets no further one.
- * In a table that was empty and that these calls alone have changed, an owner with fewer than 8 entries always gets one
- * more: its neighbour can't hold all the rest. Only whether an owner with 8 to 23 is refused as VBUS_TABLE_FULL depends
+ * In a table that was empty and that these calls alone have changed, an owner with fewer than 8 entries is never refused
+ * as VBUS_TABLE_FULL: its neighbour can't hold all the rest. Whether one with 8 to 23 is refused so is all that depends
  * on the neighbour: after the same calls, of which the same were refused so, an owner finds the same and meets the same
  * other refusals, whatever its neighbour does.
  *

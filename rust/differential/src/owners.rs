@@ -53,46 +53,56 @@ impl Checker {
             .chain(no)
             .map(|(owner, number)| self.numbered(owner, number))
             .collect();
-        let free = Slave::default();
-        left.resize_with(SLAVES, || match zeroed {
-            true => free,
-            false => Slave {
-                address: 0,
-                ..self.plain_slave()
-            },
+        left.resize_with(SLAVES, || {
+            if zeroed {
+                Slave::default()
+            } else {
+                Slave {
+                    address: 0,
+                    ..self.plain_slave()
+                }
+            }
         });
         (0..SLAVES)
             .map(|_| left.swap_remove(self.rng.below(left.len())))
             .collect()
     }
 
-    /// Every two numbers of entries: 16 exactly if the owner that enters a slave has 24 or more, or none
-    /// is free.
+    /// Every two numbers of entries, and one more of each owner's.
     pub fn every_share(&mut self) -> Checked<()> {
         for yes in 0..=SLAVES {
             for no in 0..=SLAVES - yes {
                 for zeroed in [false, true] {
                     let slaves = self.shared(yes, no, zeroed);
-                    for (owner, held) in [(true, yes), (false, no)] {
-                        let slave = self.numbered(owner, SLAVES);
-                        let numbers = self.run_on(&slaves, [Enter(slave)])?;
-                        let expected = match held {
-                            24.. => 16,
-                            _ if yes + no == 32 => 16,
-                            _ => 0,
-                        };
-                        self.holds(numbers == [expected], || {
-                            let whose = if owner { "yes" } else { "no" };
-                            format!(
-                                "{yes} entries of yes and {no} of no, and one more of {whose} \
-                                 gives {expected}; it gave {numbers:?}"
-                            )
-                        })?;
-                    }
+                    self.one_more(&slaves, true, yes, no)?;
+                    self.one_more(&slaves, false, no, yes)?;
                 }
             }
         }
         Ok(())
+    }
+
+    /// 16 exactly if the owner that enters a slave holds 24 or more, or no entry is free.
+    fn one_more(
+        &mut self,
+        slaves: &[Slave],
+        owner: bool,
+        held: usize,
+        others: usize,
+    ) -> Checked<()> {
+        let expected = match (held, held + others) {
+            (24.., _) => 16,
+            (_, 32) => 16,
+            _ => 0,
+        };
+        let slave = self.numbered(owner, SLAVES);
+        let numbers = self.run_on(slaves, [Enter(slave)])?;
+        self.holds(numbers == [expected], || {
+            format!(
+                "one more for an owner with {held}, beside {others}, gives {expected}; \
+                 it gave {numbers:?}"
+            )
+        })
     }
 
     /// From the empty table on: 24 entries of the one owner and 8 of the other, entered in any order,

@@ -13,7 +13,7 @@ pub const SLAVES: usize = 32;
 const WRONG_LENGTHS: [usize; 5] = [0, 1, 31, 33, 64];
 
 /// So many calls on tables every run makes, however short it is.
-pub const LEAST: u64 = 1_000_000;
+pub const LEAST: u64 = 1_500_000;
 
 /// The calls on tables.
 pub const CALLS: &str = "slaves: calls";

@@ -86,8 +86,8 @@ impl Slave {
 /// ```
 ///
 /// An owner may hold [`SLAVES_PER_OWNER`](crate::SLAVES_PER_OWNER) entries. In a table that was empty
-/// and that calls alone have changed, one with fewer than eight always gets one more; whether one with
-/// eight to 23 does is all that depends on the other owner.
+/// and that calls alone have changed, one with fewer than eight is never refused as
+/// [`TableFull`](Error::TableFull); whether one with eight to 23 is, is all that depends on the other.
 ///
 /// ```
 /// # use vbus::{Error, Slave, SlaveTable, SLAVES, SLAVES_PER_OWNER};
