@@ -100,7 +100,7 @@ module _ (op : Operation) (t : List Slave) where
   named-put accepted = ap (λ (l : List Slave). getD l j none) (given accepted) ∙ getD-set-same t j e none (named-inside op t accepted)
 
 -- what is known of the entry that was named: it was free, or an owner's with an address
-pub free-named : (s : Slave) (t : List Slave) → enterRefusal s t ≡ 0 → getD t (lowest isFree t) none .address ≡ 0
+free-named : (s : Slave) (t : List Slave) → enterRefusal s t ≡ 0 → getD t (lowest isFree t) none .address ≡ 0
 free-named s t accepted = free-exactly _ .0 (lowest-here isFree t (named-inside (Enter s) t accepted) .here)
 
 module _ (o : Bool) (a : ℕ) (t : List Slave) where
@@ -113,7 +113,7 @@ module _ (o : Bool) (a : ℕ) (t : List Slave) where
   found-named : foundOf o a t .number ≡ 0 → Owns
   found-named accepted = owns (named-inside (Find o a) t accepted)
 
-  pub removed-named : removeRefusal o a t ≡ 0 → Owns
+  removed-named : removeRefusal o a t ≡ 0 → Owns
   removed-named accepted = owns (named-inside (Remove o a) t accepted)
 
 pub changed-named : (o : Bool) (from to : ℕ) (t : List Slave) → changeRefusal o from to t ≡ 0 → Owns o from t

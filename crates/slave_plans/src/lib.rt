@@ -7,7 +7,7 @@ ghost use Rattle.slave_plans.specs.Table;
 ghost use Rattle.slave_plans.specs.Table.{hasAddress};
 ghost use Rattle.slave_plans.specs.Plan.{searchStart, occupancyNone, occupancyWith, planBy, enterPlan, changePlan, removePlan};
 
-// An entry of the table. It is free exactly if its address is 0.
+// An entry of the table. It is free exactly if its address is 0, and nobody's then.
 #[repr(C)]
 pub struct Slave {
     pub address: u16,
@@ -37,7 +37,7 @@ pub struct Plan {
     pub entry: Slave,
 }
 
-// Where to look for an address first. In a table of a wrong length, behind the last entry: it is refused, and may not be there whole.
+// The first entry to look at. In a table of a wrong length, behind the last one: it is refused, and may not be there whole.
 pub fn search_start(size: usize) -> usize
     ensures { λ r. ⌜ r ≡ searchStart size ⌝ }
 {
@@ -67,7 +67,7 @@ pub fn count_none(size: usize) -> Occupancy
     }
 }
 
-// The occupancy of the entries from an index on, from that of the entries behind it.
+// The occupancy of the entries from an index on, from that of the entries behind it. The count of a table is far from where the sum wraps.
 pub fn count_entry(behind: Occupancy, index: usize, entry: Slave, owner: bool) -> Occupancy
     ensures { λ r. ⌜ r ≡ occupancyWith owner index entry behind ⌝ }
 {

@@ -1,5 +1,5 @@
-// The table of slaves that two owners share (requests No. 7 and No. 8), lent as a slice of entries. Each function over it is thin and proved by a walk of its MIR; what it
-// decides, crate slave_plans does, on plain values.
+// The table of slaves that two owners share (requests No. 7 and No. 8), lent as a slice of entries. Each function over it is thin and proved
+// by a walk of its MIR; what it decides, crate slave_plans does, on plain values.
 ghost use mathlib.Core.Path.{_≡_};
 ghost use lib.ListN.{set, getD};
 ghost use Rattle.slave_plans.specs.Table.{none};
@@ -49,7 +49,8 @@ fn seek(table: &[Slave], owner: bool, address: u16) -> usize
     table.len()
 }
 
-// How many entries the owner holds, and the lowest free one. In a table of a wrong length no entry is looked at.
+// How many entries the owner holds, and the lowest free one: counted from the last entry on, so that the free one seen last is the lowest.
+// In a table of a wrong length no entry is looked at.
 fn count(table: &[Slave], owner: bool) -> Occupancy
     ensures { λ r. ⌜ r ≡ occupancyCounted owner (now (table .entry)) ⌝ }
 {
