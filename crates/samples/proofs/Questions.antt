@@ -34,7 +34,7 @@ use Rattle.slave_id.specs.SlaveId.{slaveIdOf, writtenOf}
 use Rattle.slave_id.specs.SlaveId as SlaveIds
 use Rattle.slave_id.specs.declared.SlaveId.{SlaveId}
 use Rattle.slave_plans.specs.Answer.{enterRefusal, entered, foundOf, changeRefusal, changed, removeRefusal, removed}
-use Rattle.slave_plans.specs.History.{Operation, answersOf}
+use Rattle.slave_plans.specs.History.{Operation, answersOf, tableOf}
 use Rattle.slave_plans.specs.declared.Slave.{Slave}
 use Rattle.slave_plans.specs.declared.Found as SlaveFound
 
@@ -65,6 +65,7 @@ pub data Question : Type 0 where
   changeSlave : Bool → ℕ → ℕ → List Slave → Question
   removeSlave : Bool → ℕ → List Slave → Question
   answered : Bool → List Operation → Question
+  left : List Operation → Question
   verdict : Verdict → Question
 
 -- an output before a call
@@ -155,6 +156,7 @@ answer (findSlave o a t) = slaveFoundTold (foundOf o a t)
 answer (changeSlave o from to t) = changeRefusal o from to t ∷ tableTold (changed o from to t)
 answer (removeSlave o a t) = removeRefusal o a t ∷ tableTold (removed o a t)
 answer (answered o history) = answersTold (answersOf o history)
+answer (left history) = tableTold (tableOf history)
 answer (verdict v) = number v ∷ []
 
 -- a question and the answer that the papers give

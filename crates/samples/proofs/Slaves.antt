@@ -1,12 +1,14 @@
 -- Samples of slave ID responses, of tables of slaves, and of histories of two owners.
 use Prim.Native.Nat.{ℕ, _*_}
+use mathlib.Core.Bool.{Bool, Bool·beq}
 use mathlib.Core.List.{List, [], _∷_, _++_, map}
 use lib.ListN.{replicate, set}
+use Rattle.basics.specs.Choice.{choose}
 use Rattle.record.specs.Record.{Record, recordOf}
 use Rattle.slave_plans.specs.Table.{none}
-use Rattle.slave_plans.specs.History.{Operation, Enter, Find, Change, Remove}
+use Rattle.slave_plans.specs.History.{Operation, Enter, Find, Change, Remove, ownerOf}
 use Rattle.slave_plans.specs.declared.Slave.{Slave}
-use Rattle.samples.proofs.Questions.{Row, readSlaveId, writeSlaveId, enterSlave, findSlave, changeSlave, removeSlave, answered, tableTold, untouched, refused}
+use Rattle.samples.proofs.Questions.{Row, readSlaveId, writeSlaveId, enterSlave, findSlave, changeSlave, removeSlave, answered, left, tableTold, untouched, refused}
 use Rattle.samples.proofs.Samples.{bytes, recorded, t2, no, yes, slave, slaves, twice, shared, slavesFrom, holding}
 
 -- a refused slave ID
@@ -183,14 +185,29 @@ crowded =
     ∷ Enter (slave no 0x2201 3 4)
     ∷ [])
 
+-- an owner's operations in a history, with nothing of the other's between them
+abbrev ownIn : Bool → List Operation → List Operation
+ownIn owner [] = []
+ownIn owner (operation ∷ rest) = choose (Bool·beq (ownerOf operation) owner) (operation ∷ ownIn owner rest) (ownIn owner rest)
+
 -- an answer that is a number alone
 abbrev alone : ℕ → List ℕ
 alone number = number ∷ 0 ∷ 0 ∷ []
 
+abbrev interleavedNo : List ℕ
+interleavedNo = alone 0 ++ (alone 15 ++ ((0 ∷ 1 ∷ 2 ∷ []) ++ (alone 17 ++ (alone 0 ++ (alone 14 ++ (alone 18 ++ alone 17))))))
+
+abbrev interleavedYes : List ℕ
+interleavedYes = alone 0 ++ ((0 ∷ 3 ∷ 4 ∷ []) ++ (alone 0 ++ (alone 17 ++ ((0 ∷ 3 ∷ 4 ∷ []) ++ (0 ∷ 3 ∷ 4 ∷ [])))))
+
 abbrev pub histories : List Row
 histories =
-    (answered no interleaved, alone 0 ++ (alone 15 ++ ((0 ∷ 1 ∷ 2 ∷ []) ++ (alone 17 ++ (alone 0 ++ (alone 14 ++ (alone 18 ++ alone 17)))))))
-    ∷ (answered yes interleaved, alone 0 ++ ((0 ∷ 3 ∷ 4 ∷ []) ++ (alone 0 ++ (alone 17 ++ ((0 ∷ 3 ∷ 4 ∷ []) ++ (0 ∷ 3 ∷ 4 ∷ []))))))
+    (answered no interleaved, interleavedNo)
+    ∷ (answered no (ownIn no interleaved), interleavedNo)
+    ∷ (answered yes interleaved, interleavedYes)
+    ∷ (answered yes (ownIn yes interleaved), interleavedYes)
+    ∷ (left interleaved, tableTold (slaves ((1, slave yes 0x2011 3 4) ∷ [])))
     ∷ (answered no crowded, replicate (24 * 3) 0 ++ (alone 16 ++ (alone 16 ++ (alone 0 ++ alone 16))))
     ∷ (answered yes crowded, replicate (8 * 3) 0 ++ (alone 16 ++ (alone 0 ++ (alone 0 ++ alone 0))))
+    ∷ (left crowded, tableTold (set (set (holding 24 8) 24 (slave yes 0x2200 3 4)) 0 (slave yes 0x2201 3 4)))
     ∷ []

@@ -46,10 +46,10 @@ module _ (test : Slave → Bool) where
   count-most [] = omega arith
   count-most (e ∷ t) = omega (arith, one-most (test e), count-most t)
 
-  pub count-none : (t : List Slave) → Nowhere test t → count test t ≡ 0
+  pub count-nowhere : (t : List Slave) → Nowhere test t → count test t ≡ 0
   unfolding count choose
-  count-none [] n = refl
-  count-none (e ∷ t) n = rw (n 0 (omega arith)) (omega (arith, count-none t (λ k inside. n (suc k) (omega (arith, inside)))))
+  count-nowhere [] n = refl
+  count-nowhere (e ∷ t) n = rw (n 0 (omega arith)) (omega (arith, count-nowhere t (λ k inside. n (suc k) (omega (arith, inside)))))
 
 -- every entry is free, or one of the two owners'
 pub count-all : (t : List Slave) → count isFree t + count (belongsTo false) t + count (belongsTo true) t ≡ length t

@@ -13,9 +13,12 @@ pub by-test : {P : Type 0} (test : Bool) → (test ≡ true → P) → (test ≡
 by-test true when-true when-false = when-true refl
 by-test false when-true when-false = when-false refl
 
--- a test that something contradicts is false
-pub false-if : (test : Bool) → (test ≡ true → ⊥) → test ≡ false
-false-if test never = not-eq-not .0 never
+-- a test that can't be true, or can't be false
+pub false-unless : (test : Bool) → (test ≡ true → ⊥) → test ≡ false
+false-unless test never = not-eq-not .0 never
+
+pub true-unless : (test : Bool) → (test ≡ false → ⊥) → test ≡ true
+true-unless test never = not-eq-not .0 never
 
 pub same-exactly : (a b : Bool) → (Bool·beq a b ≡ true) ↔ (a ≡ b)
 same-exactly true true = (λ e. refl, λ e. refl)
@@ -51,4 +54,4 @@ module _ (e : Slave) where
 
 -- an entry with another address
 pub other-address : (owner : Bool) (a : ℕ) (e : Slave) → e .address ≢ a → hasAddress owner a e ≡ false
-other-address owner a e other = false-if _ (λ t. other (address-exactly e owner a .0 t .1))
+other-address owner a e other = false-unless _ (λ t. other (address-exactly e owner a .0 t .1))

@@ -78,10 +78,6 @@ module _ (o : Bool) (a : ℕ) (t : List Slave) where
       any true = refl
       any false = refl
 
-  -- an answer of 17 is nothing else
-  pub find-17 : foundOf o a t .number ≡ 17 → foundOf o a t ≡ numberAlone 17
-  find-17 e = find-refused (λ z. omega (arith, e, z)) ∙ ap numberAlone e
-
   -- the same entry where the address stands is told alike
   pub find-same : (t′ : List Slave) → length t′ ≡ length t → indexOf o a t′ ≡ indexOf o a t → getD t′ (indexOf o a t) none ≡ getD t (indexOf o a t) none → foundOf o a t′ ≡ foundOf o a t
   find-same t′ size index entry = λ j. foundBy (size j) (index j) ((ap (λ (k : ℕ). getD t′ k none) index ∙ entry) j) a

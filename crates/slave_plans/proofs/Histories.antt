@@ -1,25 +1,26 @@
--- Request No. 8 over histories of both owners from the empty table: what an owner is answered depends on its own history and its 16s alone, it
--- holds at most 24 entries, and with fewer than eight it isn't refused as 16.
+-- Request No. 8 over histories of both owners from the empty table: an owner holds at most 24 entries, and with fewer than eight it isn't refused
+-- as 16.
 use Prim.Native.Nat.{_≤_, _<_}
 use native.Mathlib.Omega.{arith}
-use mathlib.Core.Path.{_≡_, refl, sym, subst, _∙_}
-use mathlib.Core.Logic.{_≢_, inl, inr}
-use mathlib.Core.Bool.{Bool, true, false, true≢false}
-use mathlib.Core.List.{List, [], _∷_}
+use mathlib.Core.Path.{_≡_, refl, sym, ap, subst, _∙_}
+use mathlib.Core.Logic.{_≢_, _⊎_, inl, inr}
+use mathlib.Core.Bool.{Bool, true, false, Bool·beq, true≢false}
+use mathlib.Core.List.{List, [], _∷_, _++_}
 use lib.ListN.{length, getD, set}
 use Rattle.basics.specs.Choice.{choose}
 use Rattle.slave_plans.specs.Table.{none, empty, isFree, belongsTo, count}
 use Rattle.slave_plans.specs.Answer.{enterRefusal, entryOf, readdressed}
-use Rattle.slave_plans.specs.History.{Operation, Enter, Find, Change, Remove, tableAfter, tableFrom, tableOf}
+use Rattle.slave_plans.specs.History.{Operation, Enter, Find, Change, Remove, ownerOf, answerOf, tableAfter, tableFrom, answersFrom, tableOf}
 use Rattle.slave_plans.specs.declared.Slave.{Slave}
+use Rattle.slave_plans.specs.declared.Found.{Found}
 use Rattle.slave_plans.proofs.Entries.{by-test, belongs-exactly}
-use Rattle.slave_plans.proofs.Counts.{count-more, count-kept, count-none, count-all}
-use Rattle.slave_plans.proofs.Refusals.{Full, enter-exactly, enter-crowded, change-exactly}
+use Rattle.slave_plans.proofs.Counts.{count-more, count-kept, count-nowhere, count-all}
+use Rattle.slave_plans.proofs.Indices.{Nowhere}
+use Rattle.slave_plans.proofs.Refusals.{enter-exactly, enter-full, change-exactly}
 use Rattle.slave_plans.proofs.Operations.{refusalOf, indexNamed, entryPut, named-inside, either, length-stays, changed-named, Once, once-empty, once-kept}
 
--- ── every table that a history leads to
-
-pub record Reached (t : List Slave) : Type 0 where
+-- what holds of every table that a history leads to
+pub record Invariant (t : List Slave) : Type 0 where
   pub size : length t ≡ 32
   pub once : Once t
   pub few : (o : Bool) → count (belongsTo o) t ≤ 24
@@ -48,40 +49,54 @@ put-few op t o few accepted = go op accepted
         (λ z. change-exactly o′ from to t .0 accepted .some (sym (named .1) ∙ z), belongs-exactly (readdressed to (entryOf o′ from t)) o .0 own .1))
     go (Remove o′ a) accepted = kept (Remove o′ a) accepted (λ own. absurd (belongs-exactly none o .0 own .0 refl))
 
-pub reached-empty : Reached empty
+pub invariant-empty : Invariant empty
 unfolding count belongsTo isFree choose
-reached-empty = record { size = refl; once = once-empty; few = λ o. omega arith }
+invariant-empty = record { size = refl; once = once-empty; few = λ o. omega arith }
 
-pub reached-after : (op : Operation) {t : List Slave} → Reached t → Reached (tableAfter op t)
-reached-after op {t} r = record {
+pub invariant-after : (op : Operation) {t : List Slave} → Invariant t → Invariant (tableAfter op t)
+invariant-after op {t} r = record {
   size = length-stays op t ∙ r .size;
   once = once-kept op t (r .once);
   few = λ o. either op t (λ (l : List Slave). count (belongsTo o) l ≤ 24) (r .few o) (λ accepted. put-few op t o (r .few o) accepted);
 }
 
-reached-from : (t : List Slave) → Reached t → (h : List Operation) → Reached (tableFrom t h)
+invariant-from : (t : List Slave) → Invariant t → (h : List Operation) → Invariant (tableFrom t h)
 unfolding tableFrom
-reached-from t r [] = r
-reached-from t r (op ∷ h) = reached-from (tableAfter op t) (reached-after op r) h
+invariant-from t r [] = r
+invariant-from t r (op ∷ h) = invariant-from (tableAfter op t) (invariant-after op r) h
 
-pub reached : (h : List Operation) → Reached (tableOf h)
-reached h = reached-from empty reached-empty h
+invariant-of : (h : List Operation) → Invariant (tableOf h)
+invariant-of h = invariant-from empty invariant-empty h
 
 -- "An owner may hold at most 24 entries"
 pub at-most-24 : (h : List Operation) (o : Bool) → count (belongsTo o) (tableOf h) ≤ 24
-at-most-24 h o = reached h .few o
+at-most-24 h o = invariant-of h .few o
 
 -- "only 16 may depend on the neighbour, and never for an owner with fewer than eight entries"
 pub room-for-eight : (h : List Operation) (s : Slave) → count (belongsTo (s .owner)) (tableOf h) < 8 → enterRefusal s (tableOf h) ≢ 16
-room-for-eight h s few e = go (enter-crowded s t e)
+room-for-eight h s few e = go (enter-full s t .0 e .full)
   where
     t : List Slave
     t = tableOf h
 
     crowded : (o : Bool) → count (belongsTo o) t < 8 → count isFree t ≡ 0 → ⊥
-    crowded true few no-free = omega (arith, few, no-free, count-all t, reached h .few false, reached h .size)
-    crowded false few no-free = omega (arith, few, no-free, count-all t, reached h .few true, reached h .size)
+    crowded true few no-free = omega (arith, few, no-free, count-all t, invariant-of h .few false, invariant-of h .size)
+    crowded false few no-free = omega (arith, few, no-free, count-all t, invariant-of h .few true, invariant-of h .size)
 
-    go : Full (s .owner) t → ⊥
+    go : (24 ≤ count (belongsTo (s .owner)) t) ⊎ Nowhere isFree t → ⊥
     go (inl many) = omega (arith, many, few)
-    go (inr none-free) = crowded (s .owner) few (count-none isFree t none-free)
+    go (inr none-free) = crowded (s .owner) few (count-nowhere isFree t none-free)
+
+-- a history that goes on is answered from the table that it has led to
+pub answers-on : (owner : Bool) (t : List Slave) (h h′ : List Operation)
+    → answersFrom owner t (h ++ h′) ≡ answersFrom owner t h ++ answersFrom owner (tableFrom t h) h′
+unfolding answersFrom tableFrom choose
+answers-on owner t [] h′ = refl
+answers-on owner t (op ∷ h) h′ =
+    ap (λ (later : List (Operation × Found)). choose (Bool·beq (ownerOf op) owner) ((op, answerOf op t) ∷ later) later) (answers-on owner (tableAfter op t) h h′)
+    ∙ go (Bool·beq (ownerOf op) owner) (answersFrom owner (tableAfter op t) h) (answersFrom owner (tableFrom (tableAfter op t) h) h′)
+  where
+    go : (own : Bool) (first later : List (Operation × Found))
+        → choose own ((op, answerOf op t) ∷ (first ++ later)) (first ++ later) ≡ choose own ((op, answerOf op t) ∷ first) first ++ later
+    go true first later = refl
+    go false first later = refl

@@ -9,7 +9,7 @@ use lib.ListN.{length, getD, set}
 use Rattle.basics.specs.Choice.{choose}
 use Rattle.slave_plans.specs.Table.{none, lowest}
 use Rattle.slave_plans.specs.declared.Slave.{Slave}
-use Rattle.slave_plans.proofs.Entries.{by-test, false-if}
+use Rattle.slave_plans.proofs.Entries.{by-test, false-unless}
 
 -- the lowest entry that passes a test
 pub record Lowest (test : Slave → Bool) (t : List Slave) (i : ℕ) : Type 0 where
@@ -30,11 +30,6 @@ module _ (test : Slave → Bool) where
     lowest-next : test e ≡ false → lowest test (e ∷ t) ≡ suc (lowest test t)
     unfolding lowest choose
     lowest-next n = rw n
-
-  pub lowest-most : (t : List Slave) → lowest test t ≤ length t
-  unfolding lowest
-  lowest-most [] = omega arith
-  lowest-most (e ∷ t) = by-test (test e) (λ y. rw (lowest-first e t y) (omega arith)) (λ n. rw (lowest-next e t n) (omega (arith, lowest-most t)))
 
   -- the index is that of the lowest entry that passes
   pub lowest-here : (t : List Slave) → lowest test t < length t → Lowest test t (lowest test t)
@@ -64,7 +59,7 @@ module _ (test : Slave → Bool) where
   lowest-none (e ∷ t) n = lowest-next e t (n 0 (omega arith)) ∙ ap suc (lowest-none t (λ k inside. n (suc k) (omega (arith, inside))))
 
   -- some entry passes if the index is inside, and none if it is past the end
-  pub lowest-inside : (t : List Slave) (k : ℕ) → k < length t → test (getD t k none) ≡ true → lowest test t ≤ k
+  lowest-inside : (t : List Slave) (k : ℕ) → k < length t → test (getD t k none) ≡ true → lowest test t ≤ k
   unfolding lowest
   lowest-inside [] k l y = absurd (not-suc-le-zero l)
   lowest-inside (e ∷ t) zero l y = rw (lowest-first e t y) (omega arith)
@@ -73,7 +68,7 @@ module _ (test : Slave → Bool) where
       (λ n. rw (lowest-next e t n) (omega (arith, lowest-inside t k (le-of-suc-le-suc l) y)))
 
   pub lowest-nowhere : (t : List Slave) → length t ≤ lowest test t → Nowhere test t
-  lowest-nowhere t past k inside = false-if _ (λ y. omega (arith, past, inside, lowest-inside t k inside y))
+  lowest-nowhere t past k inside = false-unless _ (λ y. omega (arith, past, inside, lowest-inside t k inside y))
 
   -- it is what it was, if neither the entry that goes nor the one that is put in its place passes
   pub set-other : (t : List Slave) (i : ℕ) (e : Slave) → test (getD t i none) ≡ false → test e ≡ false → lowest test (set t i e) ≡ lowest test t

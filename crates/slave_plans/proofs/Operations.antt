@@ -16,9 +16,9 @@ use Rattle.slave_plans.specs.Answer.{foundOf, tableWith, entryOf, readdr
 use Rattle.slave_plans.specs.History.{Operation, Enter, Find, Change, Remove, ownerOf, numberAlone, answerOf, tableAfter}
 use Rattle.slave_plans.specs.declared.Slave.{Slave}
 use Rattle.slave_plans.proofs.Addresses.{slave-nonzero}
-use Rattle.slave_plans.proofs.Entries.{false-if, free-exactly, address-exactly, other-address}
+use Rattle.slave_plans.proofs.Entries.{false-unless, free-exactly, address-exactly, other-address}
 use Rattle.slave_plans.proofs.Indices.{Lowest, Nowhere, lowest-here, set-other}
-use Rattle.slave_plans.proofs.Refusals.{held-inside, enter-exactly, enter-length, change-exactly, change-length, remove-exactly}
+use Rattle.slave_plans.proofs.Refusals.{somewhere-inside, enter-exactly, enter-length, change-exactly, change-length, remove-exactly}
 use Rattle.slave_plans.proofs.Finding.{identifiers, find-exactly, find-lowest, find-length, find-missing, find-same, find-zero, remove-refused}
 
 -- the refusal's number or 0
@@ -57,10 +57,10 @@ table-is (Remove o a) t = refl
 
 -- the entry is in the table
 pub named-inside : (op : Operation) (t : List Slave) → refusalOf op t ≡ 0 → indexNamed op t < length t
-named-inside (Enter s) t e = held-inside isFree t (enter-exactly s t .0 e .free)
-named-inside (Find o a) t e = held-inside (hasAddress o a) t (find-exactly o a t .0 e .held)
-named-inside (Change o from to) t e = held-inside (hasAddress o from) t (change-exactly o from to t .0 e .held)
-named-inside (Remove o a) t e = held-inside (hasAddress o a) t (remove-exactly o a t .0 e .held)
+named-inside (Enter s) t e = somewhere-inside isFree t (enter-exactly s t .0 e .free)
+named-inside (Find o a) t e = somewhere-inside (hasAddress o a) t (find-exactly o a t .0 e .there)
+named-inside (Change o from to) t e = somewhere-inside (hasAddress o from) t (change-exactly o from to t .0 e .there)
+named-inside (Remove o a) t e = somewhere-inside (hasAddress o a) t (remove-exactly o a t .0 e .there)
 
 -- "Any other length is refused first, as 24"
 pub length-first : (op : Operation) (t : List Slave) → length t ≢ 32 → refusalOf op t ≡ 24
@@ -134,7 +134,7 @@ put-found t i e size inside some lower =
       lower = λ k below. ap test (getD-set-other t i k e none (omega (arith, below))) ∙ lower k below;
     } in
     find-lowest (e .owner) (e .address) (set t i e)
-    (find-exactly (e .owner) (e .address) (set t i e) .1 (record { size = length-set t i e ∙ size; some = some; held = (i, lowest-put) })) i lowest-put
+    (find-exactly (e .owner) (e .address) (set t i e) .1 (record { size = length-set t i e ∙ size; some = some; there = (i, lowest-put) })) i lowest-put
     ∙ ap identifiers here
 
 -- a slave that was entered is found, with its identifiers
@@ -161,7 +161,7 @@ changed-keeps o from to t accepted =
     ap (foundOf o to) (given (Change o from to) t accepted)
     ∙ ap (λ (x : Bool). foundOf x to (set t (indexOf o from t) new)) (sym owner)
     ∙ put-found t (indexOf o from t) new (m .size) inside (slave-nonzero to (m .new)) (λ k below. ap (λ (x : Bool). hasAddress x to (getD t k none)) owner ∙ lower k below)
-    ∙ sym (find-lowest o from t (find-exactly o from t .1 (record { size = m .size; some = m .some; held = m .held })) (indexOf o from t) lowest-from)
+    ∙ sym (find-lowest o from t (find-exactly o from t .1 (record { size = m .size; some = m .some; there = m .there })) (indexOf o from t) lowest-from)
 
 -- to the address that it has, it "succeeds and changes nothing"
 pub changed-same : (o : Bool) (a : ℕ) (t : List Slave) → changeRefusal o a a t ≡ 0 → changed o a a t ≡ t
@@ -181,12 +181,17 @@ removed-gone o a t accepted k up-to =
     ap (hasAddress o a) (others-stay (Remove o a) t k other)
     ∙ lowest-here (hasAddress o a) t (named-inside (Remove o a) t accepted) .lower k (omega (arith, up-to, other)))
 
+-- "removing zeroes the entry", its owner to no
+pub removed-zeroed : (o : Bool) (a : ℕ) (t : List Slave) → removeRefusal o a t ≡ 0
+    → getD (removed o a t) (indexOf o a t) none ≡ record { address = 0; owner = false; product = 0; device = 0 }
+removed-zeroed o a t accepted = named-put (Remove o a) t accepted
+
 -- where it stood twice, that one is found, with its identifiers
 pub removed-next : (o : Bool) (a : ℕ) (t : List Slave) → removeRefusal o a t ≡ 0 → (i : ℕ) → Lowest (hasAddress o a) (removed o a t) i
     → (indexOf o a t < i) × (foundOf o a (removed o a t) ≡ identifiers (getD t i none))
 removed-next o a t accepted i x =
     let f = remove-exactly o a t .0 accepted in
-    let held = find-exactly o a (removed o a t) .1 (record { size = length-stays (Remove o a) t ∙ f .size; some = f .some; held = (i, x) }) in
+    let held = find-exactly o a (removed o a t) .1 (record { size = length-stays (Remove o a) t ∙ f .size; some = f .some; there = (i, x) }) in
     let behind : i ≤ indexOf o a t → ⊥ = λ up-to. true≢false (sym (x .here) ∙ removed-gone o a t accepted i up-to) in
     let past : indexOf o a t < i = omega (arith, behind) in
     (past, find-lowest o a (removed o a t) held i x ∙ ap identifiers (others-stay (Remove o a) t i (λ same. omega (arith, past, same))))
@@ -273,7 +278,7 @@ gone : (op : Operation) (t : List Slave) (o : Bool) (a : ℕ) → Once t → ref
     → (ownerAt t (indexNamed op t) ≡ o) × (addressAt t (indexNamed op t) ≡ a) → entryPut op t .address ≢ a → foundOf o a (tableAfter op t) .number ≡ 17
 gone op t o a once accepted size some (own, was) new =
     find-missing o a (tableAfter op t) (length-stays op t ∙ size)
-    (λ k inside. false-if _ (λ y.
+    (λ k inside. false-unless _ (λ y.
     dite (ℕ-discrete k (indexNamed op t))
     (λ same. new (sym (ap (λ (s : Slave). s .address) (ap (λ (n : ℕ). getD (tableAfter op t) n none) same ∙ named-put op t accepted)) ∙ address-exactly _ o a .0 y .1))
     (λ other.
@@ -303,14 +308,14 @@ Concerns (Remove o′ a′) o a = (o ≡ o′) × (a ≡ a′)
 
 -- an entry with one owner's address has no other
 differs : (o : Bool) (a : ℕ) (e : Slave) {o′ : Bool} {b : ℕ} → (e .owner ≡ o′) × (e .address ≡ b) → ((o ≡ o′) × (a ≡ b) → ⊥) → hasAddress o a e ≡ false
-differs o a e (own, at) other = false-if _ (λ y. let named = address-exactly e o a .0 y in other (sym (named .0) ∙ own, sym (named .1) ∙ at))
+differs o a e (own, at) other = false-unless _ (λ y. let named = address-exactly e o a .0 y in other (sym (named .0) ∙ own, sym (named .1) ∙ at))
 
 -- neither the entry that goes nor the one that is put in its place has one of the others
 unconcerned : (op : Operation) (t : List Slave) (o : Bool) (a : ℕ) → a ≢ 0 → (Concerns op o a → ⊥) → refusalOf op t ≡ 0
     → (hasAddress o a (getD t (indexNamed op t) none) ≡ false) × (hasAddress o a (entryPut op t) ≡ false)
 unconcerned (Enter s) t o a some other accepted = (
   other-address o a _ (λ at. some (sym at ∙ free-named s t accepted)),
-  false-if _ (λ y. let named = address-exactly s o a .0 y in other (sym (named .0), sym (named .1))),
+  false-unless _ (λ y. let named = address-exactly s o a .0 y in other (sym (named .0), sym (named .1))),
 )
 unconcerned (Find o′ b) t o a some other accepted = let unnamed = differs o a (entryOf o′ b t) (found-named o′ b t accepted) other in (unnamed, unnamed)
 unconcerned (Change o′ from to) t o a some other accepted =

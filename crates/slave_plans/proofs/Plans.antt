@@ -7,7 +7,7 @@ use lib.Dec.{eqb, leb, ltb}
 use borrow.Author.Tests.{not-true, not-false, eq-eqb, ne-eqb, le-leb, lt-leb, lt-ltb, le-ltb}
 use Rattle.basics.specs.Choice.{choose, first}
 use Rattle.slave_id.specs.SlaveId.{tooWide}
-use Rattle.slave_plans.specs.Answer.{notSlave, isAbsent, isFull, isTaken, enterLines, findLines, foundBy, changeLines}
+use Rattle.slave_plans.specs.Answer.{notSlave, isAbsent, mostHeld, isFull, isTaken, enterLines, findLines, foundBy, changeLines}
 use Rattle.slave_plans.specs.Table.{isFree, belongsTo, hasAddress}
 use Rattle.slave_plans.specs.Plan.{searchStart, occupancyWith}
 use Rattle.slave_plans.specs.declared.Slave.{Slave}
@@ -65,13 +65,13 @@ module _ (size at address : ℕ) where
   absent-nowhere n = rw (ne-eqb address 0 n)
 
 module _ (size : ℕ) (occupancy : Occupancy) where
-  pub full-held : 24 ≤ occupancy .held → true ≡ isFull size occupancy
+  pub full-held : mostHeld ≤ occupancy .held → true ≡ isFull size occupancy
   unfolding isFull
-  full-held l = rw (le-leb 24 (occupancy .held) l)
+  full-held l = rw (le-leb mostHeld (occupancy .held) l)
 
-  pub full-free : occupancy .held < 24 → leb size (occupancy .free) ≡ isFull size occupancy
+  pub full-free : occupancy .held < mostHeld → leb size (occupancy .free) ≡ isFull size occupancy
   unfolding isFull
-  full-free l = rw (lt-leb 24 (occupancy .held) l)
+  full-free l = rw (lt-leb mostHeld (occupancy .held) l)
 
 module _ (size other from to : ℕ) where
   -- a change to the address that the slave has is never refused as 15

@@ -4,7 +4,7 @@ use native.Mathlib.Omega.{arith}
 use mathlib.Core.Path.{_≡_, refl, sym, subst, _∙_}
 use native.Mathlib.Decide.{ℕ-discrete, decLt}
 use mathlib.Core.Logic.{_≢_, _↔_, _⊎_, inl, inr, dite}
-use mathlib.Core.Bool.{Bool, true, false, not, not-eq-not, true≢false}
+use mathlib.Core.Bool.{Bool, true, false, not, true≢false}
 use mathlib.Core.List.{List, [], _∷_}
 use lib.Dec.{eqb, ltb}
 use lib.ListN.{length}
@@ -19,34 +19,35 @@ use Rattle.slave_plans.specs.Answer.{notSlave, isAbsent, isFull, isTaken
 use Rattle.slave_plans.specs.declared.Slave.{Slave}
 use Rattle.slave_plans.specs.declared.Occupancy.{Occupancy}
 use Rattle.slave_plans.proofs.Addresses.{SlaveAddress, slave-exactly, no-slave}
+use Rattle.slave_plans.proofs.Entries.{true-unless}
 use Rattle.slave_plans.proofs.Plans.{full-held, full-free, taken-same, taken-other, enter-24, enter-14, enter-18, enter-15, enter-16, enter-0, find-0, change-24, change-14, change-17, change-15, change-0}
 use Rattle.slave_plans.proofs.Indices.{Lowest, Nowhere, lowest-here, lowest-is, lowest-none, lowest-nowhere}
 
--- the lowest of the entries that pass a test
-abbrev pub Held : (Slave → Bool) → List Slave → Type 0
-Held test t = (i : ℕ) × Lowest test t i
+-- some entry passes a test, and the lowest of them counts
+abbrev pub Somewhere : (Slave → Bool) → List Slave → Type 0
+Somewhere test t = (i : ℕ) × Lowest test t i
 
 -- an owner's address that finding doesn't refuse
 pub record Findable (o : Bool) (a : ℕ) (t : List Slave) : Type 0 where
   pub size : length t ≡ 32
   pub some : a ≢ 0
-  pub held : Held (hasAddress o a) t
+  pub there : Somewhere (hasAddress o a) t
 
 module _ (test : Slave → Bool) (t : List Slave) where
-  below-held : lowest test t < length t → Held test t
-  below-held l = (lowest test t, lowest-here test t l)
+  somewhere-below : lowest test t < length t → Somewhere test t
+  somewhere-below l = (lowest test t, lowest-here test t l)
 
-  pub held-inside : Held test t → lowest test t < length t
-  held-inside (i, x) = subst (λ (n : ℕ). n < length t) (sym (lowest-is test t i x)) (x .inside)
+  pub somewhere-inside : Somewhere test t → lowest test t < length t
+  somewhere-inside (i, x) = subst (λ (n : ℕ). n < length t) (sym (lowest-is test t i x)) (x .inside)
 
   nowhere-beyond : Nowhere test t → length t ≤ lowest test t
   nowhere-beyond n = omega (arith, lowest-none test t n)
 
-absent-exactly : (o : Bool) (a : ℕ) (t : List Slave) → (isAbsent (length t) (indexOf o a t) a ≡ false) ↔ ((a ≢ 0) × Held (hasAddress o a) t)
+absent-exactly : (o : Bool) (a : ℕ) (t : List Slave) → (isAbsent (length t) (indexOf o a t) a ≡ false) ↔ ((a ≢ 0) × Somewhere (hasAddress o a) t)
 unfolding isAbsent
 absent-exactly o a t = (
-  λ e. let both = neither (eqb a 0) _ e in (eqb-false _ _ (both .0), below-held (hasAddress o a) t (leb-false _ _ (both .1))),
-  λ (some, held). rw (ne-eqb _ _ some, lt-leb _ _ (held-inside (hasAddress o a) t held)),
+  λ e. let both = neither (eqb a 0) _ e in (eqb-false _ _ (both .0), somewhere-below (hasAddress o a) t (leb-false _ _ (both .1))),
+  λ (some, held). rw (ne-eqb _ _ some, lt-leb _ _ (somewhere-inside (hasAddress o a) t held)),
 )
 
 taken-exactly : (o : Bool) (from to : ℕ) (t : List Slave) → (isTaken (length t) (indexOf o to t) from to ≡ false) ↔ (to ≢ from → Nowhere (hasAddress o to) t)
@@ -58,15 +59,14 @@ taken-exactly o from to t = (
       (λ new. sym (taken-other (length t) (indexOf o to t) from to new) ∙ le-ltb _ _ (nowhere-beyond (hasAddress o to) t (fresh new))),
 )
 
--- "it holds 24 or more, or no entry is free"
-abbrev pub Full : Bool → List Slave → Type 0
-Full o t = (24 ≤ count (belongsTo o) t) ⊎ Nowhere isFree t
-
 module _ (o : Bool) (t : List Slave) where
   abbrev occupancy : Occupancy
   occupancy = occupancyOf o t
 
-  full-exactly : (isFull (length t) occupancy ≡ true) ↔ Full o t
+  abbrev Full : Type 0
+  Full = (24 ≤ count (belongsTo o) t) ⊎ Nowhere isFree t
+
+  full-exactly : (isFull (length t) occupancy ≡ true) ↔ Full
   full-exactly = (
     λ e.
         dite (decLt (occupancy .held) 24)
@@ -75,26 +75,23 @@ module _ (o : Bool) (t : List Slave) where
     λ full. go full,
   )
     where
-      go : Full o t → isFull (length t) occupancy ≡ true
+      go : Full → isFull (length t) occupancy ≡ true
       go (inl many) = sym (full-held (length t) occupancy many)
       go (inr none) =
           dite (decLt (occupancy .held) 24)
           (λ few. sym (full-free (length t) occupancy few) ∙ le-leb _ _ (nowhere-beyond isFree t none))
           (λ many. sym (full-held (length t) occupancy (omega (arith, many))))
 
-  roomy-exactly : (isFull (length t) occupancy ≡ false) ↔ ((count (belongsTo o) t < 24) × Held isFree t)
+  roomy-exactly : (isFull (length t) occupancy ≡ false) ↔ ((count (belongsTo o) t < 24) × Somewhere isFree t)
   roomy-exactly = (
     λ e.
         let few : count (belongsTo o) t < 24 = dite (decLt (occupancy .held) 24) (λ few. few) (λ many. absurd (true≢false (full-held (length t) occupancy (omega (arith, many)) ∙ e))) in
-        (few, below-held isFree t (leb-false _ _ (full-free (length t) occupancy few ∙ e))),
-    λ (few, free). sym (full-free (length t) occupancy few) ∙ lt-leb _ _ (held-inside isFree t free),
+        (few, somewhere-below isFree t (leb-false _ _ (full-free (length t) occupancy few ∙ e))),
+    λ (few, free). sym (full-free (length t) occupancy few) ∙ lt-leb _ _ (somewhere-inside isFree t free),
   )
 
 pub length-exactly : (n : ℕ) → (not (eqb n 32) ≡ false) ↔ (n ≡ 32)
 length-exactly n = (λ e. eqb-true _ _ (not-false _ e), λ e. rw (eq-eqb _ _ e))
-
-true-unless : (test : Bool) → (test ≡ false → ⊥) → test ≡ true
-true-unless test never = not-eq-not .0 never
 
 -- a test whose being false is what something else is, is true where that isn't
 true-if : {A : Type 0} (test : Bool) → ((test ≡ false) ↔ A) → (A → ⊥) → test ≡ true
@@ -103,7 +100,7 @@ true-if test exactly never = true-unless test (λ e. never (exactly .0 e))
 is-wide : (p d : ℕ) → ((p < 2 ^ 24) × (d < 2 ^ 24) → ⊥) → tooWide p d ≡ true
 is-wide p d = true-if (tooWide p d) (wide-exactly p d)
 
-is-absent : (o : Bool) (a : ℕ) (t : List Slave) → ((a ≢ 0) × Held (hasAddress o a) t → ⊥) → isAbsent (length t) (indexOf o a t) a ≡ true
+is-absent : (o : Bool) (a : ℕ) (t : List Slave) → ((a ≢ 0) × Somewhere (hasAddress o a) t → ⊥) → isAbsent (length t) (indexOf o a t) a ≡ true
 is-absent o a t = true-if (isAbsent (length t) (indexOf o a t) a) (absent-exactly o a t)
 
 -- ── finding and removing
@@ -116,8 +113,8 @@ module _ (o : Bool) (a : ℕ) (t : List Slave) where
         let size = line-passed (not (eqb (length t) 32)) 24 _ (omega arith) e in
         let there = line-passed (isAbsent (length t) (indexOf o a t) a) 17 0 (omega arith) (size .1) in
         let held = absent-exactly o a t .0 (there .0) in
-        record { size = length-exactly (length t) .0 (size .0); some = held .0; held = held .1 },
-    λ f. sym (find-0 (length t) (indexOf o a t) a (f .size) (absent-exactly o a t .1 (f .some, f .held))),
+        record { size = length-exactly (length t) .0 (size .0); some = held .0; there = held .1 },
+    λ f. sym (find-0 (length t) (indexOf o a t) a (f .size) (absent-exactly o a t .1 (f .some, f .there))),
   )
 
   pub remove-exactly : (removeRefusal o a t ≡ 0) ↔ Findable o a t
@@ -133,7 +130,7 @@ pub record MayEnter (s : Slave) (t : List Slave) : Type 0 where
   pub device : s .device < 2 ^ 24
   pub fresh : Nowhere (hasAddress (s .owner) (s .address)) t
   pub few : count (belongsTo (s .owner)) t < 24
-  pub free : Held isFree t
+  pub free : Somewhere isFree t
 
 pub enter-exactly : (s : Slave) (t : List Slave) → (enterRefusal s t ≡ 0) ↔ MayEnter s t
 unfolding enterRefusal choose
@@ -178,17 +175,14 @@ module _ (s : Slave) (t : List Slave) where
   abbrev at : ℕ
   at = indexOf (s .owner) (s .address) t
 
-  abbrev taken : Occupancy
-  taken = occupancyOf (s .owner) t
-
   pub enter-length : length t ≢ 32 → enterRefusal s t ≡ 24
   unfolding enterRefusal
-  enter-length wrong = sym (enter-24 (length t) at taken s wrong)
+  enter-length wrong = sym (enter-24 (length t) at (occupancyOf (s .owner) t) s wrong)
 
   module _ (size : length t ≡ 32) where
     pub enter-address : (SlaveAddress (s .address) → ⊥) → enterRefusal s t ≡ 14
     unfolding enterRefusal
-    enter-address never = sym (enter-14 (length t) at taken s size (sym (no-slave (s .address) never)))
+    enter-address never = sym (enter-14 (length t) at (occupancyOf (s .owner) t) s size (sym (no-slave (s .address) never)))
 
     module _ (address : SlaveAddress (s .address)) where
       slave : notSlave (s .address) ≡ false
@@ -196,36 +190,61 @@ module _ (s : Slave) (t : List Slave) where
 
       pub enter-wide : ((s .product < 2 ^ 24) × (s .device < 2 ^ 24) → ⊥) → enterRefusal s t ≡ 18
       unfolding enterRefusal
-      enter-wide wide = sym (enter-18 (length t) at taken s size slave (is-wide (s .product) (s .device) wide))
+      enter-wide wide = sym (enter-18 (length t) at (occupancyOf (s .owner) t) s size slave (is-wide (s .product) (s .device) wide))
 
       module _ (product : s .product < 2 ^ 24) (device : s .device < 2 ^ 24) where
         narrow : tooWide (s .product) (s .device) ≡ false
         narrow = wide-exactly (s .product) (s .device) .1 (product, device)
 
-        pub enter-taken : Held named t → enterRefusal s t ≡ 15
+        pub enter-taken : Somewhere named t → enterRefusal s t ≡ 15
         unfolding enterRefusal
-        enter-taken held = sym (enter-15 (length t) at taken s size slave narrow (held-inside named t held))
+        enter-taken held = sym (enter-15 (length t) at (occupancyOf (s .owner) t) s size slave narrow (somewhere-inside named t held))
 
-        -- "16 is now given exactly when it holds 24 or more, or no entry is free"
-        pub enter-full : Nowhere named t → (enterRefusal s t ≡ 16) ↔ Full (s .owner) t
-        unfolding enterRefusal
-        enter-full fresh =
-            let beyond = nowhere-beyond named t fresh in (
-              λ e. full-exactly (s .owner) t .0 (true-unless _ (λ roomy. omega (arith, e, enter-0 (length t) at taken s size slave narrow beyond roomy))),
-              λ full. sym (enter-16 (length t) at taken s size slave narrow beyond (full-exactly (s .owner) t .1 full)),
-            )
+-- 16 comes where no line before it applies, and then "exactly when it holds 24 or more, or no entry is free"
+pub record RefusedFull (s : Slave) (t : List Slave) : Type 0 where
+  pub size : length t ≡ 32
+  pub address : SlaveAddress (s .address)
+  pub product : s .product < 2 ^ 24
+  pub device : s .device < 2 ^ 24
+  pub fresh : Nowhere (hasAddress (s .owner) (s .address)) t
+  pub full : (24 ≤ count (belongsTo (s .owner)) t) ⊎ Nowhere isFree t
 
--- whatever else holds, 16 comes only then
-pub enter-crowded : (s : Slave) (t : List Slave) → enterRefusal s t ≡ 16 → Full (s .owner) t
+pub enter-full : (s : Slave) (t : List Slave) → (enterRefusal s t ≡ 16) ↔ RefusedFull s t
 unfolding enterRefusal choose
-enter-crowded s t e = full-exactly (s .owner) t .0 (last-applies (not (eqb (length t) 32)) (notSlave (s .address)) (tooWide (s .product) (s .device)) (ltb (indexOf (s .owner) (s .address) t) (length t)) _ e)
+enter-full s t = (
+  λ e.
+      let (size, address, narrow, fresh, full) = last-applies (not (eqb (length t) 32)) (notSlave (s .address)) (tooWide (s .product) (s .device)) (ltb (at s t) (length t)) _ e in
+      let bounds = wide-exactly (s .product) (s .device) .0 narrow in
+      record {
+        size = length-exactly (length t) .0 size;
+        address = slave-exactly (s .address) .0 address;
+        product = bounds .0;
+        device = bounds .1;
+        fresh = lowest-nowhere (named s t) t (ltb-false _ _ fresh);
+        full = full-exactly (s .owner) t .0 full;
+      },
+  λ r.
+      sym (
+      enter-16
+      (length t)
+      (at s t)
+      (occupancyOf (s .owner) t)
+      s
+      (r .size)
+      (slave-exactly (s .address) .1 (r .address))
+      (wide-exactly (s .product) (s .device) .1 (r .product, r .device))
+      (nowhere-beyond (named s t) t (r .fresh))
+      (full-exactly (s .owner) t .1 (r .full))
+      ),
+)
   where
-    last-applies : (a b c d full : Bool) → first ((a, 24) ∷ (b, 14) ∷ (c, 18) ∷ (d, 15) ∷ (full, 16) ∷ []) ≡ 16 → full ≡ true
+    last-applies : (a b c d full : Bool) → first ((a, 24) ∷ (b, 14) ∷ (c, 18) ∷ (d, 15) ∷ (full, 16) ∷ []) ≡ 16
+        → (a ≡ false) × (b ≡ false) × (c ≡ false) × (d ≡ false) × (full ≡ true)
     last-applies true b c d full e = absurd (omega (arith, e))
     last-applies false true c d full e = absurd (omega (arith, e))
     last-applies false false true d full e = absurd (omega (arith, e))
     last-applies false false false true full e = absurd (omega (arith, e))
-    last-applies false false false false true e = refl
+    last-applies false false false false true e = (refl, refl, refl, refl, refl)
     last-applies false false false false false e = absurd (omega (arith, e))
 
 -- ── changing an address
@@ -234,7 +253,7 @@ pub record MayChange (o : Bool) (from to : ℕ) (t : List Slave) : Type 0 where
   pub size : length t ≡ 32
   pub new : SlaveAddress to
   pub some : from ≢ 0
-  pub held : Held (hasAddress o from) t
+  pub there : Somewhere (hasAddress o from) t
   pub fresh : to ≢ from → Nowhere (hasAddress o to) t
 
 module _ (o : Bool) (from to : ℕ) (t : List Slave) where
@@ -256,7 +275,7 @@ module _ (o : Bool) (from to : ℕ) (t : List Slave) where
           size = length-exactly (length t) .0 (size .0);
           new = slave-exactly to .0 (slave .0);
           some = absent-exactly o from t .0 (there .0) .0;
-          held = absent-exactly o from t .0 (there .0) .1;
+          there = absent-exactly o from t .0 (there .0) .1;
           fresh = taken-exactly o from to t .0 (fresh .0);
         },
     λ m.
@@ -269,7 +288,7 @@ module _ (o : Bool) (from to : ℕ) (t : List Slave) where
         to
         (m .size)
         (slave-exactly to .1 (m .new))
-        (absent-exactly o from t .1 (m .some, m .held))
+        (absent-exactly o from t .1 (m .some, m .there))
         (taken-exactly o from to t .1 (m .fresh))
         ),
   )
@@ -288,11 +307,11 @@ module _ (o : Bool) (from to : ℕ) (t : List Slave) where
       slave-to : notSlave to ≡ false
       slave-to = slave-exactly to .1 address
 
-      pub change-old : ((from ≢ 0) × Held (hasAddress o from) t → ⊥) → changeRefusal o from to t ≡ 17
+      pub change-old : ((from ≢ 0) × Somewhere (hasAddress o from) t → ⊥) → changeRefusal o from to t ≡ 17
       unfolding changeRefusal
       change-old absent = sym (change-17 (length t) old new from to size slave-to (is-absent o from t absent))
 
-      pub change-taken : from ≢ 0 → Held (hasAddress o from) t → to ≢ from → Held (hasAddress o to) t → changeRefusal o from to t ≡ 15
+      pub change-taken : from ≢ 0 → Somewhere (hasAddress o from) t → to ≢ from → Somewhere (hasAddress o to) t → changeRefusal o from to t ≡ 15
       unfolding changeRefusal
       change-taken some at-old differs at-new =
           sym (
@@ -305,5 +324,5 @@ module _ (o : Bool) (from to : ℕ) (t : List Slave) where
           size
           slave-to
           (absent-exactly o from t .1 (some, at-old))
-          (sym (taken-other (length t) new from to differs) ∙ lt-ltb new (length t) (held-inside (hasAddress o to) t at-new))
+          (sym (taken-other (length t) new from to differs) ∙ lt-ltb new (length t) (somewhere-inside (hasAddress o to) t at-new))
           )

@@ -8,7 +8,7 @@ use lib.ListN.{length, getD, set}
 use Rattle.basics.specs.Choice.{choose, first}
 use Rattle.basics.specs.Words.{highWord}
 use Rattle.slave_id.specs.SlaveId.{tooWide}
-use Rattle.slave_plans.specs.Table.{none, indexOf, occupancyOf}
+use Rattle.slave_plans.specs.Table.{none, isFree, lowest, indexOf, occupancyOf}
 use Rattle.slave_plans.specs.declared.Slave.{Slave}
 use Rattle.slave_plans.specs.declared.Found.{Found}
 use Rattle.slave_plans.specs.declared.Occupancy.{Occupancy}
@@ -27,9 +27,13 @@ notSlave address = not (eqb (address / 2 ^ 12 % 2 ^ 3) 2) || (highWord address |
 unfoldable pub isAbsent : ℕ → ℕ → ℕ → Bool
 isAbsent size at address = eqb address 0 || leb size at
 
+-- "An owner may hold at most 24 entries"
+abbrev pub mostHeld : ℕ
+mostHeld = 24
+
 -- 16: "given exactly when it holds 24 or more, or no entry is free"
 unfoldable pub isFull : ℕ → Occupancy → Bool
-isFull size occupancy = leb 24 (occupancy .held) || leb size (occupancy .free)
+isFull size occupancy = leb mostHeld (occupancy .held) || leb size (occupancy .free)
 
 -- 15 when changing: the new address is already there, "unless it equals the old"
 unfoldable pub isTaken : ℕ → ℕ → ℕ → ℕ → Bool
@@ -57,7 +61,7 @@ enterRefusal slave table =
 
 -- "entering takes the lowest free one"
 abbrev pub entered : Slave → List Slave → List Slave
-entered slave table = tableWith (enterRefusal slave table) (occupancyOf (slave .owner) table .free) slave table
+entered slave table = tableWith (enterRefusal slave table) (lowest isFree table) slave table
 
 -- ── finding
 

@@ -19,9 +19,10 @@ searchStart size = choose (eqb size 32) 0 size
 abbrev pub indexSought : Bool → ℕ → List Slave → ℕ
 indexSought owner address table = choose (eqb (length table) 32) (indexOf owner address table) (length table)
 
--- what counting gives: of no entries, of those from an index on by what was counted of those behind it, and of a table
-abbrev pub occupancyNone : ℕ → Occupancy
-occupancyNone size = record { held = 0; free = size }
+-- what counting starts from, what it makes of an entry and of what was counted behind it, and what it gives of a table. The number wraps, since
+-- any may be handed in; that of a table doesn't come so far
+abbrev pub occupancyStart : ℕ → Occupancy
+occupancyStart size = record { held = 0; free = size }
 
 unfoldable pub occupancyWith : Bool → ℕ → Slave → Occupancy → Occupancy
 occupancyWith owner index entry behind =
@@ -31,7 +32,7 @@ occupancyWith owner index entry behind =
     }
 
 abbrev pub occupancyCounted : Bool → List Slave → Occupancy
-occupancyCounted owner table = choose (eqb (length table) 32) (occupancyOf owner table) (occupancyNone (length table))
+occupancyCounted owner table = choose (eqb (length table) 32) (occupancyOf owner table) (occupancyStart (length table))
 
 -- by the refusal's number or 0: an entry to be put or, refused, nothing, which is an entry past the end
 abbrev pub planBy : ℕ → ℕ → ℕ → Slave → Plan

@@ -12,6 +12,7 @@ use Rattle.slave_plans.specs.declared.Occupancy.{Occupancy}
 abbrev pub none : Slave
 none = record { address = 0; owner = false; product = 0; device = 0 }
 
+-- "the empty table": 32 entries of zeros
 abbrev pub empty : List Slave
 empty = replicate 32 none
 

@@ -5,7 +5,7 @@ ghost use Rattle.basics.specs.Choice.{first};
 ghost use Rattle.slave_plans.specs.Answer.{notSlave, isAbsent, isFull, isTaken, enterLines, findLines, foundBy, changeLines, readdressed};
 ghost use Rattle.slave_plans.specs.Table;
 ghost use Rattle.slave_plans.specs.Table.{hasAddress};
-ghost use Rattle.slave_plans.specs.Plan.{searchStart, occupancyNone, occupancyWith, planBy, enterPlan, changePlan, removePlan};
+ghost use Rattle.slave_plans.specs.Plan.{searchStart, occupancyStart, occupancyWith, planBy, enterPlan, changePlan, removePlan};
 
 // An entry of the table. It is free exactly if its address is 0, and nobody's then.
 #[repr(C)]
@@ -58,8 +58,8 @@ pub fn has_address(entry: Slave, owner: bool, address: u16) -> bool
 }
 
 // The occupancy of no entries.
-pub fn count_none(size: usize) -> Occupancy
-    ensures { λ r. ⌜ r ≡ occupancyNone size ⌝ }
+pub fn count_start(size: usize) -> Occupancy
+    ensures { λ r. ⌜ r ≡ occupancyStart size ⌝ }
 {
     Occupancy {
         held: 0,

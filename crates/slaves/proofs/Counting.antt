@@ -10,7 +10,7 @@ use lib.ListN.{length, getD, drop, length-drop, drop-of-length-le}
 use lib.Seq.{drop-cons}
 use Rattle.basics.specs.Choice.{choose}
 use Rattle.slave_plans.specs.Table.{none, isFree, belongsTo, lowest, count, occupancyOf}
-use Rattle.slave_plans.specs.Plan.{searchStart, occupancyNone, occupancyWith, occupancyCounted}
+use Rattle.slave_plans.specs.Plan.{searchStart, occupancyStart, occupancyWith, occupancyCounted}
 use Rattle.slave_plans.specs.declared.Slave.{Slave}
 use Rattle.slave_plans.specs.declared.Occupancy.{Occupancy}
 use Rattle.slave_plans.proofs.Counts.{count-most}
@@ -74,7 +74,7 @@ module _ (owner : Bool) (table : List Slave) where
       ∙ counted-with index (omega (arith, next, within)) fits
 
   -- it starts behind the last entry, and ends where a search would start
-  pub counting-starts : occupancyNone (length table) ≡ occupancy-from owner (length table) table
+  pub counting-starts : occupancyStart (length table) ≡ occupancy-from owner (length table) table
   counting-starts =
       let all = le-refl (length table) in
       same-numbers _ _ (sym (none-left (belongsTo owner) table (length table) all)) (omega (arith, nowhere-left isFree table (length table) all))
@@ -84,6 +84,6 @@ module _ (owner : Bool) (table : List Slave) where
   counting-ends index e = rw e (go (eqb (length table) 32))
     where
       go : (right : Bool)
-          → occupancy-from owner (choose right 0 (length table)) table ≡ choose right (occupancyOf owner table) (occupancyNone (length table))
+          → occupancy-from owner (choose right 0 (length table)) table ≡ choose right (occupancyOf owner table) (occupancyStart (length table))
       go true = same-numbers _ _ refl (zero-add (lowest isFree table))
       go false = sym counting-starts

@@ -56,7 +56,7 @@ fn count(table: &[Slave], owner: bool) -> Occupancy
 {
     let first = slave_plans::search_start(table.len());
     let mut index = table.len();
-    let mut occupancy = slave_plans::count_none(index);
+    let mut occupancy = slave_plans::count_start(index);
     while first < index {
         index = index - 1;
         let entry = entry_at(table, index);

@@ -44,7 +44,7 @@ use denote.Triple.Walked.{says, Stays, stay-none-slice, stay-none, walkOf, goes-
 use denote.Triple.Clauses.{ensured, lasts}
 use denote.Exit.{yes}
 use Rattle.slave_plans.specs.Table.{none}
-use Rattle.slave_plans.specs.Plan.{searchStart, occupancyNone, occupancyWith, occupancyCounted}
+use Rattle.slave_plans.specs.Plan.{searchStart, occupancyStart, occupancyWith, occupancyCounted}
 use Rattle.slave_plans.specs.declared.Slave.{Slave}
 use Rattle.slave_plans.specs.declared.Occupancy.{Occupancy}
 use Rattle.slaves.proofs.Structs.{slave-row, slave-mir, slave-behind, slave-vals, slave-tells, slave-makes, slave-lawful, occupancy-row, occupancy-mir, occupancy-val, occupancy-vals, occupancy-tells, occupancy-makes, occupancy-lawful}
@@ -60,10 +60,10 @@ use Rattle.slave_plans.proofs.search_start as search-start
 use Rattle.slave_plans.proofs.search_start.Symbol as search-start-def
 use Rattle.slave_plans.proofs.search_start.Symbol.{name as #search-start}
 use Rattle.slave_plans.proofs.search_start.Met as search-start-thm
-use Rattle.slave_plans.proofs.count_none as count-none
-use Rattle.slave_plans.proofs.count_none.Symbol as count-none-def
-use Rattle.slave_plans.proofs.count_none.Symbol.{name as #count-none}
-use Rattle.slave_plans.proofs.count_none.Met as count-none-thm
+use Rattle.slave_plans.proofs.count_start as count-start
+use Rattle.slave_plans.proofs.count_start.Symbol as count-start-def
+use Rattle.slave_plans.proofs.count_start.Symbol.{name as #count-start}
+use Rattle.slave_plans.proofs.count_start.Met as count-start-thm
 use Rattle.slave_plans.proofs.count_entry as count-entry
 use Rattle.slave_plans.proofs.count_entry.Symbol as count-entry-def
 use Rattle.slave_plans.proofs.count_entry.Symbol.{name as #count-entry}
@@ -87,12 +87,12 @@ Valid r = Is occupancy-row r (occupancy-vals r)
 
 -- what the two callees promise that no other loop has, and that they say it of what they return
 module _ {M : Type 1} (𝓤 : URA M) (H : Heap 𝓤) (A : Atoms 𝓤) (mem : Memory → SProp 𝓤) (run : Routine → Fun 𝓤) where
-  abbrev The-count-none : Contract 𝓤
-  The-count-none = tripleOf 𝓤 H A count-none.signature (count-none.spec 𝓤 H A mem run)
+  abbrev The-count-start : Contract 𝓤
+  The-count-start = tripleOf 𝓤 H A count-start.signature (count-start.spec 𝓤 H A mem run)
 
-  count-none-says : (size : ℕ) (r : Occupancy)
-      → ent 𝓤 (ensured 𝓤 H A count-none.ended (count-none.clauses 𝓤 H A mem run) tt (size, tt) tt r) (fact 𝓤 (r ≡ occupancyNone size))
-  count-none-says size r = exE 𝓤 _ (λ ws. snd∗ 𝓤 (sem 𝓤 H A (lasts count-none.ended tt (size, tt) ws)) (fact 𝓤 (r ≡ occupancyNone size)))
+  count-start-says : (size : ℕ) (r : Occupancy)
+      → ent 𝓤 (ensured 𝓤 H A count-start.ended (count-start.clauses 𝓤 H A mem run) tt (size, tt) tt r) (fact 𝓤 (r ≡ occupancyStart size))
+  count-start-says size r = exE 𝓤 _ (λ ws. snd∗ 𝓤 (sem 𝓤 H A (lasts count-start.ended tt (size, tt) ws)) (fact 𝓤 (r ≡ occupancyStart size)))
 
   abbrev The-count-entry : Contract 𝓤
   The-count-entry = tripleOf 𝓤 H A count-entry.signature (count-entry.spec 𝓤 H A mem run)
@@ -132,11 +132,11 @@ module _ {M : Type 1} (𝓤 : URA M) (H : Heap 𝓤) (A : Atoms 𝓤) (W : Given
       frame ! $ nothing ! $ owned ! bool (Is bool) (bool-makes 𝓤 H A W) owner _ refl $ fjoin ! $ move ! (1 ∷ 0 ∷ []) $ fjoin ! $ frame ! $
       owned ! occupancy-row (Is occupancy-row) (occupancy-makes 𝓤 H A) r _ is-r $ done !
 
-  abbrev to-count-none : The-count-none 𝓤 H A mem run .Ghost
-  to-count-none = ((tt, tt, tt, (length table, tt), (vint w64 (length table) ∷ [], tt)), tt)
+  abbrev to-count-start : The-count-start 𝓤 H A mem run .Ghost
+  to-count-start = ((tt, tt, tt, (length table, tt), (vint w64 (length table) ∷ [], tt)), tt)
 
-  goes-count-none : ent 𝓤 (sem 𝓤 H A ftrue) (The-count-none 𝓤 H A mem run .pre to-count-none)
-  goes-count-none =
+  goes-count-start : ent 𝓤 (sem 𝓤 H A ftrue) (The-count-start 𝓤 H A mem run .pre to-count-start)
+  goes-count-start =
       qed W (‵ ftrue ∷ []) ∵
       owned ! usize (Is usize) (uint-makes 𝓤 H A W w64) (length table) _ (refl, fits) $ fjoin ! $ nothing ! $ join ! $ frame ! $ done !
 
@@ -289,11 +289,11 @@ module _ {M : Type 1} (𝓤 : URA M) (H : Heap 𝓤) (A : Atoms 𝓤) (W : Given
       loop-runs : (i : Downto) → Sq W (At i) (runs C Λ En mirs.t-5 (atRet En Post))
       loop-runs i = first ! $ blocks ! $ loops ! 𝓣 Nearer Nearer-wf At turns i
 
-  walk : (𝓣 : Tables 𝓤 H) → Triple 𝓤 (𝓣 .C #search-start) (The-search-start 𝓤 H A mem run) → Triple 𝓤 (𝓣 .C #count-none) (The-count-none 𝓤 H A mem run)
+  walk : (𝓣 : Tables 𝓤 H) → Triple 𝓤 (𝓣 .C #search-start) (The-search-start 𝓤 H A mem run) → Triple 𝓤 (𝓣 .C #count-start) (The-count-start 𝓤 H A mem run)
       → Triple 𝓤 (𝓣 .C #entry-at) (The-entry-at 𝓤 H A mem run) → Triple 𝓤 (𝓣 .C #count-entry) (The-count-entry 𝓤 H A mem run)
       → ent 𝓤 (onEntry 𝓤 H A f.signature (κ, tt) (q, tt) (x, (owner, tt)) given)
       (WpFn 𝓤 H (𝓣 .C) (𝓣 .Λ) code.function (s ∷ vbool owner ∷ []) Post)
-  walk 𝓣 known-search-start known-count-none known-entry-at known-count-entry =
+  walk 𝓣 known-search-start known-count-start known-entry-at known-count-entry =
       qed W (Token ∷ ‵ (owns (ShrSlice (named 0) κ slave-row ∷ bool ∷ []) (x, (owner, tt)) given) ∷ []) ∵
       enter ! (𝓣 .C) (𝓣 .Λ) code.function (s ∷ vbool owner ∷ []) _ $
       alloc1 ! (λ l₀. alloc1 ! (λ l₁. alloc1 ! (λ l₂. alloc1 ! (λ l₃. alloc1 ! (λ l₄. alloc1 ! (λ l₅. alloc1 ! (λ l₆. alloc1 ! (λ l₇. alloc1 ! (λ l₈.
@@ -313,17 +313,17 @@ module _ {M : Type 1} (𝓤 : URA M) (H : Heap 𝓤) (A : Atoms 𝓤) (W : Given
       peeks ! usize (Is usize) (shows 𝓤 H A usize) start (u ∷ [])
       (λ is-start. land ! (from ! (stop !)) (init ! 11 refl (uint-lawful 𝓤 H A W w64 .typed start _ is-start .0)) $ drop ! $
       rewrite ! 10 (λ (z : Val). ‵ (fat fullShare (tyInt w64) l₃ 0 z)) (ap only (uint-tells w64 start _ is-start)) refl $ forget ! 2 refl $
-      -- `count_none`, by value
+      -- `count_start`, by value
       assigns ! (of-opd ! (load ! (from ! (fld ! refl (stop !))) (look-in ! 14 (sub ! 1 refl (whole !))))) (from ! (stop !))
       (init ! 8 refl (tt, record { fits = fits })) $
-      nothing ! $ use1 W (raw (The-count-none 𝓤 H A mem run .pre to-count-none)) goes-count-none $
-      calls-at ! (fmOf 𝓤 H (W .laws) 𝓣) (The-count-none 𝓤 H A mem run) known-count-none to-count-none
+      nothing ! $ use1 W (raw (The-count-start 𝓤 H A mem run .pre to-count-start)) goes-count-start $
+      calls-at ! (fmOf 𝓤 H (W .laws) 𝓣) (The-count-start 𝓤 H A mem run) known-count-start to-count-start
       (and-then ! (load ! (from ! (stop !)) (look ! 9 refl)) (no-more !)) (λ w.
       use1 W (later (some (λ (r : Occupancy). (‵ ftrue ⊛ ‵ (occupancy-row .own r (w ∷ [])))
-      ⊛ raw (ensured 𝓤 H A count-none.ended (count-none.clauses 𝓤 H A mem run) tt (length table, tt) tt r)))) (id⊢ 𝓤 _) $ await ! tt $
+      ⊛ raw (ensured 𝓤 H A count-start.ended (count-start.clauses 𝓤 H A mem run) tt (length table, tt) tt r)))) (id⊢ 𝓤 _) $ await ! tt $
       pick ! (λ r.
-      split ! $ move ! (1 ∷ []) $ use1 W (raw (fact 𝓤 (r ≡ occupancyNone (length table)))) (count-none-says 𝓤 H A mem run (length table) r) $
-      heard ! (r ≡ occupancyNone (length table)) (λ e-r. split ! $ drop ! $
+      split ! $ move ! (1 ∷ []) $ use1 W (raw (fact 𝓤 (r ≡ occupancyStart (length table)))) (count-start-says 𝓤 H A mem run (length table) r) $
+      heard ! (r ≡ occupancyStart (length table)) (λ e-r. split ! $ drop ! $
       peeks ! occupancy-row (Is occupancy-row) (shows 𝓤 H A occupancy-row) r (w ∷ [])
       (λ is-r. land ! (from ! (stop !)) (init ! 7 refl (occupancy-lawful 𝓤 H A W .typed r _ is-r .0)) $ drop ! $
       rewrite ! 6 (λ (z : Val). ‵ (fat fullShare occupancy-mir l₅ 0 z)) (ap only (occupancy-tells r _ is-r)) refl $
@@ -335,24 +335,24 @@ module _ {M : Type 1} (𝓤 : URA M) (H : Heap 𝓤) (A : Atoms 𝓤) (W : Given
 
 module _ {M : Type 1} (𝓤 : URA M) (H : Heap 𝓤) (A : Atoms 𝓤) (W : Given 𝓤 H A) (mem : Memory → SProp 𝓤) (run : Routine → Fun 𝓤) where
   walks : (𝓣 : Tables 𝓤 H) → Triple 𝓤 (𝓣 .C #search-start) (The-search-start 𝓤 H A mem run)
-      → Triple 𝓤 (𝓣 .C #count-none) (The-count-none 𝓤 H A mem run) → Triple 𝓤 (𝓣 .C #entry-at) (The-entry-at 𝓤 H A mem run)
+      → Triple 𝓤 (𝓣 .C #count-start) (The-count-start 𝓤 H A mem run) → Triple 𝓤 (𝓣 .C #entry-at) (The-entry-at 𝓤 H A mem run)
       → Triple 𝓤 (𝓣 .C #count-entry) (The-count-entry 𝓤 H A mem run)
       → Walks 𝓤 H A f.ended stayed (WpFn 𝓤 H (𝓣 .C) (𝓣 .Λ) code.function) (f.clauses 𝓤 H A mem run)
-  walks 𝓣 known-search-start known-count-none known-entry-at known-count-entry =
+  walks 𝓣 known-search-start known-count-start known-entry-at known-count-entry =
       walked 𝓤 H A f.ended stayed (f.clauses 𝓤 H A mem run) (WpFn 𝓤 H (𝓣 .C) (𝓣 .Λ) code.function) (λ κs. (slice-vals, (bool-vals, tt)))
       (λ κs. (shr-slice-tells (named 0) (κs .0) slave-row, (bool-tells, tt)))
       (λ κs qs bounds a g are. via 𝓤 _ (fst∗ 𝓤 _ (emp 𝓤))
-      (walk 𝓤 H A W mem run (κs .0) (qs .0) (a .0) (a .1 .0) (are .0 .0 .1 .0) 𝓣 known-search-start known-count-none known-entry-at known-count-entry))
+      (walk 𝓤 H A W mem run (κs .0) (qs .0) (a .0) (a .1 .0) (are .0 .0 .1 .0) 𝓣 known-search-start known-count-start known-entry-at known-count-entry))
 
 meets : {M : Type 1} (𝓤 : URA M) (H : Heap 𝓤) (A : Atoms 𝓤) → Given 𝓤 H A → (mem : Memory → SProp 𝓤) (run : Routine → Fun 𝓤) (𝓣 : Tables 𝓤 H)
-    → Triple 𝓤 (𝓣 .C #search-start) (The-search-start 𝓤 H A mem run) → Triple 𝓤 (𝓣 .C #count-none) (The-count-none 𝓤 H A mem run)
+    → Triple 𝓤 (𝓣 .C #search-start) (The-search-start 𝓤 H A mem run) → Triple 𝓤 (𝓣 .C #count-start) (The-count-start 𝓤 H A mem run)
     → Triple 𝓤 (𝓣 .C #entry-at) (The-entry-at 𝓤 H A mem run) → Triple 𝓤 (𝓣 .C #count-entry) (The-count-entry 𝓤 H A mem run)
     → Meets 𝓤 H A f.signature (WpFn 𝓤 H (𝓣 .C) (𝓣 .Λ) code.function) (f.spec 𝓤 H A mem run)
-meets 𝓤 H A W mem run 𝓣 known-search-start known-count-none known-entry-at known-count-entry =
+meets 𝓤 H A W mem run 𝓣 known-search-start known-count-start known-entry-at known-count-entry =
     walk-meets 𝓤 H A f.ended stayed W
     (goes-none-slice 𝓤 H A W 1 (0 ∷ []) tt (plain (λ _. slave-row)) yes, (goes-none 𝓤 H A W 1 (λ _. bool) yes (λ κs x f. refl), tt))
     (f.clauses 𝓤 H A mem run) (WpFn 𝓤 H (𝓣 .C) (𝓣 .Λ) code.function) (WpFn-mono 𝓤 H (W .laws) 𝓣 code.function)
-    (walks 𝓤 H A W mem run 𝓣 known-search-start known-count-none known-entry-at known-count-entry)
+    (walks 𝓤 H A W mem run 𝓣 known-search-start known-count-start known-entry-at known-count-entry)
 
 pub count-spec : {M : Type 1} → stated.statement M
 unfolding code.routine tablesOf
@@ -362,8 +362,8 @@ count-spec 𝓤 H 𝓜 𝓖 𝓡 =
     (meets 𝓤 H (𝓖 .A) (givenOf 𝓤 H 𝓜 𝓖) (𝓜 .mem) (𝓡 .run) (tablesOf 𝓤 H 𝓜 (tables 𝓤 H 𝓜 𝓡 code.env))
     (cited 𝓤 H (The-search-start 𝓤 H (𝓖 .A) (𝓜 .mem) (𝓡 .run)) 𝓜 𝓡 code.env #search-start search-start-def.routine
     code.calls-slave-plans·search-start (search-start-thm.met 𝓤 H 𝓜 𝓖 𝓡))
-    (cited 𝓤 H (The-count-none 𝓤 H (𝓖 .A) (𝓜 .mem) (𝓡 .run)) 𝓜 𝓡 code.env #count-none count-none-def.routine
-    code.calls-slave-plans·count-none (count-none-thm.met 𝓤 H 𝓜 𝓖 𝓡))
+    (cited 𝓤 H (The-count-start 𝓤 H (𝓖 .A) (𝓜 .mem) (𝓡 .run)) 𝓜 𝓡 code.env #count-start count-start-def.routine
+    code.calls-slave-plans·count-start (count-start-thm.met 𝓤 H 𝓜 𝓖 𝓡))
     (cited 𝓤 H (The-entry-at 𝓤 H (𝓖 .A) (𝓜 .mem) (𝓡 .run)) 𝓜 𝓡 code.env #entry-at entry-at-def.routine code.calls-slaves·entry-at
     (entry-at-thm.met 𝓤 H 𝓜 𝓖 𝓡))
     (cited 𝓤 H (The-count-entry 𝓤 H (𝓖 .A) (𝓜 .mem) (𝓡 .run)) 𝓜 𝓡 code.env #count-entry count-entry-def.routine
