@@ -7,7 +7,7 @@
  * needs nothing from outside. Stack: at most 256 bytes a call, but up to 6,400 in the four section functions, which
  * call themselves once a section: 48 bytes each, 127 sections at most. tests/stack in the repository measures it.
  *
- * Pointers. This is the caller's to keep; no function can check it:
+ * Pointers and owners. This is the caller's to keep; no function can check it:
  *  - A pointer has as many bytes, a table as many entries, behind it as the count says that follows it (n, room), and
  *    bytes[7], bytes[2], payload[6] and memory[VBUS_MAX_STREAM] as many as the brackets say, whatever `length` says.
  *    Nothing beyond them is read or written.
@@ -16,6 +16,8 @@
  *  - A buffer that is written (payload of vbus_next and vbus_receive, memory, out, a table) must not overlap another of
  *    the call: a recording can't be normalized in place.
  *  - While a call runs, nothing else writes to its buffers, nor reads those that it writes.
+ *  - Each `owner` in a table of slaves is 0 or 1 as a byte, as C and C++ store a bool. Whoever brings a table in as bytes,
+ *    from flash say, must see to that before handing it over.
  *
  * Refusals. `number` is 0 where the function did its work, else the number of a refusal. At each function its refusals
  * stand in the order in which they are checked; the first that applies is given. After a refusal every buffer holds
@@ -326,17 +328,14 @@ vbus_written vbus_write_slave_id(uint16_t destination, uint16_t source, uint32_t
  * between the fields may hold anything.
  *
  * Two owners use the table, false and true: two plants, say, whose buses end in one box. An entry that isn't free is of
- * the owner that it names. A call is about one owner and sees that owner's entries alone, so that both may have a slave
- * with the same address. Calls never make an address stand in two entries of an owner; in a table brought in that has
- * one twice, the owner's entry with the lower index counts. An owner may hold VBUS_SLAVES_PER_OWNER entries; one that
- * was brought in with more keeps them, and gets no further one.
+ * the owner that it names. A call is about one owner, and finds, changes and removes that owner's entries alone, so that
+ * both may have a slave with the same address. Calls never make an address stand in two entries of an owner; in a table
+ * brought in that has one twice, the owner's entry with the lower index counts. An owner may hold VBUS_SLAVES_PER_OWNER
+ * entries; one that was brought in with more keeps them, and gets a further one only when it holds fewer than that.
  * In a table that was empty and that these calls alone have changed, an owner with fewer than 8 entries is never refused
  * as VBUS_TABLE_FULL: its neighbour can't hold all the rest. Whether one with 8 to 23 is refused so is all that depends
  * on the neighbour: after the same calls, of which the same were refused so, an owner finds the same and meets the same
  * other refusals, whatever its neighbour does.
- *
- * `owner` is a bool: its byte must be 0 or 1, as whatever C stores in it is. No function can look at a bool that is
- * neither, so whoever brings a table in as bytes, from flash say, must see to that before handing it over.
  *
  * The refusals, of which each function names its own; `number`, or the number that is answered, is 0 where there is none:
  *   VBUS_WRONG_TABLE_LENGTH (24): n isn't VBUS_SLAVES

@@ -169,8 +169,9 @@ fn compare(
 /// Every refusal and every verdict occurred, the naive reading and every class of receivers found
 /// records, these had unused septet bits in none, one, some and all of their blocks, positions came to
 /// the limit, there were faults of every class, tables of slaves started from each class and came to
-/// each refusal, also where others applied behind it, and two histories of an owner agreed, also with
-/// 16s in them, and parted, or the run has shown less than it claims.
+/// each refusal, also where others applied behind it, two histories of an owner agreed, also with 16s in
+/// them, and parted, and an owner got its eighth entry beside a neighbour with 24, or the run has shown
+/// less than it claims.
 fn complete(checker: &mut Checker) -> Checked<()> {
     let errors = Error::ALL.iter().map(|error| error.number() as usize);
     for number in errors.chain([0]) {

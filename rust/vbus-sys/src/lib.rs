@@ -22,7 +22,7 @@
 /// The entries of a table of slaves. Any other count is refused.
 pub const SLAVES: usize = 32;
 
-/// The entries that one of the two owners of a table may hold.
+/// How many entries one of the two owners of a table may hold at most.
 pub const SLAVES_PER_OWNER: usize = 24;
 
 /// Everything of a record but its payload.

@@ -77,7 +77,7 @@ pub const MAX_STREAM: usize = 772;
 /// The entries of a table of slaves.
 pub const SLAVES: usize = vbus_sys::SLAVES;
 
-/// The entries that one of the two owners of a table of slaves may hold.
+/// How many entries one of the two owners of a table of slaves may hold at most.
 pub const SLAVES_PER_OWNER: usize = vbus_sys::SLAVES_PER_OWNER;
 
 fn check(number: u32) -> Result<(), Error> {

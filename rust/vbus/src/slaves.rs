@@ -200,7 +200,7 @@ impl SlaveTable {
     /// assert_eq!(table.change_address(true, 0x2010, 0x2010), Ok(()));
     /// assert_eq!(table.change_address(true, 0x2010, 0x2020), Err(Error::AddressTaken));
     /// assert_eq!(table.change_address(true, 0x2030, 0x2020), Err(Error::NoSuchAddress));
-    /// // The other owner's slave is in nobody's way.
+    /// // The other owner's slave isn't in the way.
     /// assert_eq!(table.change_address(true, 0x2010, 0x2030), Ok(()));
     /// # Ok::<(), vbus::Error>(())
     /// ```
@@ -210,7 +210,7 @@ impl SlaveTable {
         check(unsafe { vbus_sys::vbus_slave_change_address(table, n, owner, from, to) })
     }
 
-    /// Removes the owner's slave with an address: its entry is free, and the default one.
+    /// Removes the owner's slave with an address: its entry is the default one then, which is free.
     pub fn remove(&mut self, owner: bool, address: u16) -> Result<(), Error> {
         let (table, n) = (self.entries.as_mut_ptr(), self.entries.len());
         // SAFETY: pointer and count are those of an array that is borrowed mutably.
