@@ -34,7 +34,7 @@ use Rattle.slave_id.specs.SlaveId.{slaveIdOf, writtenOf}
 use Rattle.slave_id.specs.SlaveId as SlaveIds
 use Rattle.slave_id.specs.declared.SlaveId.{SlaveId}
 use Rattle.slave_plans.specs.Answer.{enterRefusal, entered, foundOf, changeRefusal, changed, removeRefusal, removed}
-use Rattle.slave_plans.specs.History.{Operation, answersOf, tableOf}
+use Rattle.slave_plans.specs.History.{Operation, Enter, Find, Change, Remove, tableOf, answersOf, ownHistory}
 use Rattle.slave_plans.specs.declared.Slave.{Slave}
 use Rattle.slave_plans.specs.declared.Found as SlaveFound
 
@@ -66,6 +66,7 @@ pub data Question : Type 0 where
   removeSlave : Bool → ℕ → List Slave → Question
   answered : Bool → List Operation → Question
   left : List Operation → Question
+  owned : Bool → List Operation → Question
   verdict : Verdict → Question
 
 -- an output before a call
@@ -129,6 +130,17 @@ abbrev answersTold : List (Operation × SlaveFound.Found) → List ℕ
 answersTold [] = []
 answersTold ((operation, found) ∷ rest) = slaveFoundTold found ++ answersTold rest
 
+-- an owner's own history, with its 16s
+abbrev operationTold : Operation → List ℕ
+operationTold (Enter s) = 0 ∷ tableTold (s ∷ [])
+operationTold (Find o a) = 1 ∷ boolTold o ∷ a ∷ []
+operationTold (Change o from to) = 2 ∷ boolTold o ∷ from ∷ to ∷ []
+operationTold (Remove o a) = 3 ∷ boolTold o ∷ a ∷ []
+
+abbrev pub ownTold : List (Operation × Bool) → List ℕ
+ownTold [] = []
+ownTold ((operation, sixteen) ∷ rest) = operationTold operation ++ (boolTold sixteen ∷ ownTold rest)
+
 abbrev pub answer : Question → List ℕ
 answer (checksum block) = checksumOf block ∷ []
 answer (extract block n) = septetsTold (extracted block n)
@@ -157,6 +169,7 @@ answer (changeSlave o from to t) = changeRefusal o from to t ∷ tableTold (chan
 answer (removeSlave o a t) = removeRefusal o a t ∷ tableTold (removed o a t)
 answer (answered o history) = answersTold (answersOf o history)
 answer (left history) = tableTold (tableOf history)
+answer (owned o history) = ownTold (ownHistory o history)
 answer (verdict v) = number v ∷ []
 
 -- a question and the answer that the papers give

@@ -1,6 +1,6 @@
 -- Samples of slave ID responses, of tables of slaves, and of histories of two owners.
 use Prim.Native.Nat.{ℕ, _*_}
-use mathlib.Core.Bool.{Bool, Bool·beq}
+use mathlib.Core.Bool.{Bool, true, false, Bool·beq}
 use mathlib.Core.List.{List, [], _∷_, _++_, map}
 use lib.ListN.{replicate, set}
 use Rattle.basics.specs.Choice.{choose}
@@ -8,7 +8,7 @@ use Rattle.record.specs.Record.{Record, recordOf}
 use Rattle.slave_plans.specs.Table.{none}
 use Rattle.slave_plans.specs.History.{Operation, Enter, Find, Change, Remove, ownerOf}
 use Rattle.slave_plans.specs.declared.Slave.{Slave}
-use Rattle.samples.proofs.Questions.{Row, readSlaveId, writeSlaveId, enterSlave, findSlave, changeSlave, removeSlave, answered, left, tableTold, untouched, refused}
+use Rattle.samples.proofs.Questions.{Row, readSlaveId, writeSlaveId, enterSlave, findSlave, changeSlave, removeSlave, answered, left, owned, tableTold, ownTold, untouched, refused}
 use Rattle.samples.proofs.Samples.{bytes, recorded, t2, no, yes, slave, slaves, twice, shared, slavesFrom, holding}
 
 -- a refused slave ID
@@ -61,6 +61,9 @@ short = replicate 31 none
 abbrev long : List Slave
 long = replicate 33 (slave no 0x2010 1 2)
 
+abbrev lastTaken : List Slave
+lastTaken = set twice 31 (slave no 0x2F70 3 4)
+
 abbrev pub slaveTables : List Row
 slaveTables =
     (enterSlave (slave no 0x2010 0xFFFFFF 0xFFFFFF) (slaves []), 0 ∷ tableTold (slaves ((0, slave no 0x2010 0xFFFFFF 0xFFFFFF) ∷ [])))
@@ -86,6 +89,8 @@ slaveTables =
     ∷ (enterSlave (slave no 0x2011 0x1000000 2) full, unchanged 18 full)
     ∷ (enterSlave (slave no 0x2010 1 2) full, unchanged 15 full)
     ∷ (enterSlave (slave no 0x2011 1 2) twice, unchanged 15 twice)
+    ∷ (enterSlave (slave no 0x2F70 1 2) lastTaken, unchanged 15 lastTaken)
+    ∷ (enterSlave (slave no 0x2010 3 4) (slaves ((0, slave no 0x0001 0 0) ∷ (1, slave no 0x1000 1 2) ∷ [])), 0 ∷ tableTold (slaves ((0, slave no 0x0001 0 0) ∷ (1, slave no 0x1000 1 2) ∷ (2, slave no 0x2010 3 4) ∷ [])))
     ∷ (enterSlave (slave no 0x2011 1 2) full, unchanged 16 full)
     ∷ (findSlave no 0x2010 twice, 0 ∷ 30 ∷ 31 ∷ [])
     ∷ (findSlave no 0x0001 twice, 0 ∷ 310 ∷ 311 ∷ [])
@@ -106,6 +111,7 @@ slaveTables =
     ∷ (changeSlave no 0 0x2012 twice, unchanged 17 twice)
     ∷ (changeSlave no 0x2010 0x2011 twice, unchanged 15 twice)
     ∷ (changeSlave no 0x2011 0x2010 twice, unchanged 15 twice)
+    ∷ (changeSlave no 0x2010 0x2F70 lastTaken, unchanged 15 lastTaken)
     ∷ (changeSlave no 0x2010 0x2080 long, unchanged 24 long)
     ∷ (changeSlave no 0x2012 0x2013 long, unchanged 24 long)
     ∷ (changeSlave no 0x2010 0x2011 (set long 4 (slave no 0x2011 3 4)), unchanged 24 (set long 4 (slave no 0x2011 3 4)))
@@ -133,6 +139,10 @@ twoOwners =
     ∷ (enterSlave (slave yes 0x2200 3 4) (holding 7 24), unchanged 16 (holding 7 24))
     ∷ (enterSlave (slave no 0x2200 3 4) (holding 16 16), unchanged 16 (holding 16 16))
     ∷ (enterSlave (slave no 0x2100 3 4) (holding 24 0), unchanged 15 (holding 24 0))
+    ∷ (enterSlave (slave yes 0x2100 3 4) (holding 7 24), unchanged 15 (holding 7 24))
+    ∷ (enterSlave (slave no 0x2200 3 4) (set (holding 23 0) 23 (slave no 0x0001 1 2)), unchanged 16 (set (holding 23 0) 23 (slave no 0x0001 1 2)))
+    ∷ (enterSlave (slave yes 0x200F 1 2) (slaves []), unchanged 14 (slaves []))
+    ∷ (enterSlave (slave yes 0x2010 0x1000000 2) (slaves []), unchanged 18 (slaves []))
     ∷ (enterSlave (slave no 0x2100 3 4) (holding 0 32), unchanged 16 (holding 0 32))
     ∷ (enterSlave (slave yes 0x2010 3 4) (replicate 32 (slave yes 0 5 6)), 0 ∷ tableTold (set (replicate 32 (slave yes 0 5 6)) 0 (slave yes 0x2010 3 4)))
     ∷ (enterSlave (slave no 0x2012 3 4) shared, 0 ∷ tableTold (set shared 0 (slave no 0x2012 3 4)))
@@ -200,14 +210,41 @@ interleavedNo = alone 0 ++ (alone 15 ++ ((0 ∷ 1 ∷ 2 ∷ []) ++ (alone 17 ++ 
 abbrev interleavedYes : List ℕ
 interleavedYes = alone 0 ++ ((0 ∷ 3 ∷ 4 ∷ []) ++ (alone 0 ++ (alone 17 ++ ((0 ∷ 3 ∷ 4 ∷ []) ++ (0 ∷ 3 ∷ 4 ∷ [])))))
 
+-- their own histories, each operation with whether it is answered 16
+abbrev ownedNo : List (Operation × Bool)
+ownedNo =
+    (Enter (slave no 0x2010 1 2), false)
+    ∷ (Enter (slave no 0x2010 5 6), false)
+    ∷ (Find no 0x2010, false)
+    ∷ (Change no 0x2011 0x2012, false)
+    ∷ (Remove no 0x2010, false)
+    ∷ (Enter (slave no 0x200F 5 6), false)
+    ∷ (Enter (slave no 0x2010 0x1000000 6), false)
+    ∷ (Remove no 0x2010, false)
+    ∷ []
+
+abbrev ownedYes : List (Operation × Bool)
+ownedYes =
+    map (λ (s : Slave). (Enter s, false)) (slavesFrom yes 0x2100 8)
+    ++ ((Enter (slave yes 0x2200 3 4), true)
+    ∷ (Remove yes 0x2100, false)
+    ∷ (Enter (slave yes 0x2200 3 4), false)
+    ∷ (Enter (slave yes 0x2201 3 4), false)
+    ∷ [])
+
 abbrev pub histories : List Row
 histories =
     (answered no interleaved, interleavedNo)
     ∷ (answered no (ownIn no interleaved), interleavedNo)
     ∷ (answered yes interleaved, interleavedYes)
     ∷ (answered yes (ownIn yes interleaved), interleavedYes)
+    ∷ (answered yes (Enter (slave yes 0x2010 3 4) ∷ Enter (slave yes 0x2011 5 6) ∷ Change yes 0x2010 0x2011 ∷ Change yes 0x2010 0x2080 ∷ Remove yes 0x0001 ∷ []), alone 0 ++ (alone 0 ++ (alone 15 ++ (alone 14 ++ alone 17))))
+    ∷ (left [], replicate (32 * 4) 0)
+    ∷ (left (Enter (slave yes 0x2010 3 4) ∷ Enter (slave no 0x2010 1 2) ∷ []), tableTold (slaves ((0, slave yes 0x2010 3 4) ∷ (1, slave no 0x2010 1 2) ∷ [])))
     ∷ (left interleaved, tableTold (slaves ((1, slave yes 0x2011 3 4) ∷ [])))
+    ∷ (owned no interleaved, ownTold ownedNo)
     ∷ (answered no crowded, replicate (24 * 3) 0 ++ (alone 16 ++ (alone 16 ++ (alone 0 ++ alone 16))))
     ∷ (answered yes crowded, replicate (8 * 3) 0 ++ (alone 16 ++ (alone 0 ++ (alone 0 ++ alone 0))))
+    ∷ (owned yes crowded, ownTold ownedYes)
     ∷ (left crowded, tableTold (set (set (holding 24 8) 24 (slave yes 0x2200 3 4)) 0 (slave yes 0x2201 3 4)))
     ∷ []

@@ -36,7 +36,7 @@ Parted n n′ = ((n ≡ 16) × (n′ ≡ 0)) ⊎ ((n ≡ 0) × (n′ ≡ 16))
 abbrev SameOrParted : ℕ → ℕ → Type 0
 SameOrParted n n′ = (n ≡ n′) ⊎ Parted n n′
 
--- so is entering, where all lines before 16 are alike
+-- entering is answered the same in both, or so, where all lines before 16 are alike
 abbrev number : Bool → Bool → Bool → Bool → ℕ
 number x y z full = first ((x, 14) ∷ (y, 18) ∷ (z, 15) ∷ (full, 16) ∷ [])
 
