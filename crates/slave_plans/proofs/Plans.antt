@@ -9,18 +9,18 @@ use Rattle.basics.specs.Choice.{choose, first}
 use Rattle.slave_id.specs.SlaveId.{tooWide}
 use Rattle.slave_plans.specs.Answer.{notSlave, isAbsent, mostHeld, isFull, isTaken, enterLines, findLines, foundBy, changeLines}
 use Rattle.slave_plans.specs.Table.{isFree, belongsTo, hasAddress}
-use Rattle.slave_plans.specs.Plan.{searchStart, occupancyWith}
+use Rattle.slave_plans.specs.Plan.{searchStart, isSought, occupancyWith}
 use Rattle.slave_plans.specs.declared.Slave.{Slave}
 use Rattle.slave_plans.specs.declared.Occupancy.{Occupancy}
 
 -- ── where the search begins
 
-module _ (size : ℕ) where
-  pub start-right : size ≡ 32 → 0 ≡ searchStart size
+module _ (size start : ℕ) where
+  pub start-right : size ≡ 32 → start ≡ searchStart size start
   unfolding choose
   start-right e = rw (eq-eqb size 32 e)
 
-  pub start-wrong : size ≢ 32 → size ≡ searchStart size
+  pub start-wrong : size ≢ 32 → size ≡ searchStart size start
   unfolding choose
   start-wrong n = rw (ne-eqb size 32 n)
 
@@ -38,6 +38,14 @@ module _ (owner : Bool) (entry : Slave) where
     pub address-other : same ≡ false → false ≡ hasAddress owner address entry
     unfolding hasAddress
     address-other other = rw other
+
+    pub sought-free : (free : Bool) → free ≡ true → eqb (entry .address) 0 ≡ isSought free owner address entry
+    unfolding isSought isFree choose
+    sought-free free e = rw e
+
+    pub sought-address : (free : Bool) → free ≡ false → hasAddress owner address entry ≡ isSought free owner address entry
+    unfolding isSought choose
+    sought-address free e = rw e
 
   module _ (index : ℕ) (behind : Occupancy) where
     pub count-free : entry .address ≡ 0 → record { held = behind .held; free = index } ≡ occupancyWith owner index entry behind

@@ -5,19 +5,24 @@ use mathlib.Core.List.{List}
 use lib.Dec.{eqb}
 use lib.ListN.{length}
 use Rattle.basics.specs.Choice.{choose, first}
-use Rattle.slave_plans.specs.Table.{none, isFree, belongsTo, indexOf, occupancyOf}
+use Rattle.slave_plans.specs.Table.{none, isFree, belongsTo, hasAddress, lowestFrom, occupancyOf}
 use Rattle.slave_plans.specs.Answer.{enterLines, findLines, changeLines, readdressed}
 use Rattle.slave_plans.specs.declared.Slave.{Slave}
 use Rattle.slave_plans.specs.declared.Occupancy.{Occupancy}
 use Rattle.slave_plans.specs.declared.Plan.{Plan}
 
 -- the first entry that is looked at: in a table of a wrong length none, so that it isn't read before 24 is given
-abbrev pub searchStart : ℕ → ℕ
-searchStart size = choose (eqb size 32) 0 size
+abbrev pub searchStart : ℕ → ℕ → ℕ
+searchStart size start = choose (eqb size 32) start size
+
+-- what is looked for: a free entry, or an owner's with an address
+unfoldable pub isSought : Bool → Bool → ℕ → Slave → Bool
+isSought free owner address entry = choose free (isFree entry) (hasAddress owner address entry)
 
 -- what the search gives
-abbrev pub indexSought : Bool → ℕ → List Slave → ℕ
-indexSought owner address table = choose (eqb (length table) 32) (indexOf owner address table) (length table)
+abbrev pub indexSought : ℕ → Bool → Bool → ℕ → List Slave → ℕ
+indexSought start free owner address table =
+    choose (eqb (length table) 32) (lowestFrom start (isSought free owner address) table) (length table)
 
 -- what counting starts from, what it makes of an entry and of what was counted behind it, and what it gives of a table. The number wraps, since
 -- any may be handed in; that of a table doesn't come so far

@@ -3,7 +3,7 @@ use Prim.Native.Nat.{ℕ, suc, _+_}
 use mathlib.Core.Bool.{Bool, false, not, _&&_, Bool·beq}
 use mathlib.Core.List.{List, [], _∷_}
 use lib.Dec.{eqb}
-use lib.ListN.{replicate}
+use lib.ListN.{drop, replicate}
 use Rattle.basics.specs.Choice.{choose}
 use Rattle.slave_plans.specs.declared.Slave.{Slave}
 use Rattle.slave_plans.specs.declared.Occupancy.{Occupancy}
@@ -32,6 +32,10 @@ hasAddress owner address entry = Bool·beq (entry .owner) owner && eqb (entry .a
 unfoldable pub lowest : (Slave → Bool) → List Slave → ℕ
 lowest test [] = 0
 lowest test (entry ∷ rest) = choose (test entry) 0 (suc (lowest test rest))
+
+-- the same from an index on; from past the end, that index
+abbrev pub lowestFrom : ℕ → (Slave → Bool) → List Slave → ℕ
+lowestFrom start test table = start + lowest test (drop start table)
 
 -- how many entries pass a test
 unfoldable pub count : (Slave → Bool) → List Slave → ℕ

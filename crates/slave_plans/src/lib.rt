@@ -1,11 +1,11 @@
 // What each operation on a table of slaves (requests No. 7 and No. 8) decides, from what crate slaves has seen of the table: its size, the
-// indices where an owner's addresses stand, which are the size for an address that stands nowhere, and how much of it is taken.
+// indices where an owner's addresses stand, which are at least the size for an address that stands nowhere, and how much of it is taken.
 ghost use mathlib.Core.Path.{_≡_};
 ghost use Rattle.basics.specs.Choice.{first};
 ghost use Rattle.slave_plans.specs.Answer.{notSlave, isAbsent, isFull, isTaken, enterLines, findLines, foundBy, changeLines, readdressed};
 ghost use Rattle.slave_plans.specs.Table;
 ghost use Rattle.slave_plans.specs.Table.{hasAddress};
-ghost use Rattle.slave_plans.specs.Plan.{searchStart, occupancyStart, occupancyWith, planBy, enterPlan, changePlan, removePlan};
+ghost use Rattle.slave_plans.specs.Plan.{searchStart, isSought, occupancyStart, occupancyWith, planBy, enterPlan, changePlan, removePlan};
 
 // An entry of the table. It is free exactly if its address is 0, and nobody's then.
 #[repr(C)]
@@ -16,7 +16,7 @@ pub struct Slave {
     pub device: u32,
 }
 
-// How many entries an owner holds, and the index of the lowest free one, which is the table's size if there is none.
+// How many entries an owner holds, and the index of the lowest free one, which is at least the table's size if there is none.
 pub struct Occupancy {
     pub held: usize,
     pub free: usize,
@@ -38,23 +38,33 @@ pub struct Plan {
 }
 
 // The first entry to look at. In a table of a wrong length, behind the last one: it is refused, and may not be there whole.
-pub fn search_start(size: usize) -> usize
-    ensures { λ r. ⌜ r ≡ searchStart size ⌝ }
+pub fn search_start(size: usize, start: u8) -> usize
+    ensures { λ r. ⌜ r ≡ searchStart size start ⌝ }
 {
     if size == 32 {
-        return 0;
+        return start as usize;
     }
     size
 }
 
 // An owner's entry with an address.
-pub fn has_address(entry: Slave, owner: bool, address: u16) -> bool
+fn has_address(entry: Slave, owner: bool, address: u16) -> bool
     ensures { λ r. ⌜ r ≡ hasAddress owner address entry ⌝ }
 {
     if entry.owner == owner {
         return entry.address == address;
     }
     false
+}
+
+// A free entry, whichever owner it shows, or an owner's with an address.
+pub fn is_sought(entry: Slave, free: bool, owner: bool, address: u16) -> bool
+    ensures { λ r. ⌜ r ≡ isSought free owner address entry ⌝ }
+{
+    if free {
+        return entry.address == 0;
+    }
+    has_address(entry, owner, address)
 }
 
 // The occupancy of no entries.

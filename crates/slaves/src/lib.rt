@@ -1,10 +1,14 @@
-// The table of slaves that two owners share (requests No. 7 and No. 8), lent as a slice of entries. Each function over it is thin and proved
+// The table of slaves that two owners share (requests No. 7 to No. 9), lent as a slice of entries. Each function over it is thin and proved
 // by a walk of its MIR; what it decides, crate slave_plans does, on plain values.
 ghost use mathlib.Core.Path.{_≡_};
 ghost use lib.ListN.{set, getD};
 ghost use Rattle.slave_plans.specs.Table.{none};
 ghost use Rattle.slave_plans.specs.Plan.{indexSought, occupancyCounted};
-ghost use Rattle.slave_plans.specs.Answer.{enterRefusal, entered, foundOf, changeRefusal, changed, removeRefusal, removed};
+ghost use Rattle.slave_plans.specs.Answer.{foundOf, changeRefusal, changed, removed};
+ghost use Rattle.slave_figures.specs.Keeping.{enterKept, enteredBy, removeKept, checkOf};
+use slave_figures::Checked;
+use slave_figures::Figures;
+use slave_figures::Kept;
 use slave_plans::Found;
 use slave_plans::Occupancy;
 use slave_plans::Slave;
@@ -34,19 +38,20 @@ fn put(table: &mut [Slave], index: usize, entry: Slave)
     table[index] = entry;
 }
 
-// The lowest index whose entry is the owner's and has the address, or the table's length. In a table of a wrong length no entry is looked at.
-fn seek(table: &[Slave], owner: bool, address: u16) -> usize
-    ensures { λ r. ⌜ r ≡ indexSought owner address (now (table .entry)) ⌝ }
+// The lowest index, from a start on, of a free entry or of one that is the owner's and has the address; at least the table's length if there
+// is none. In a table of a wrong length no entry is looked at.
+fn seek(table: &[Slave], start: u8, free: bool, owner: bool, address: u16) -> usize
+    ensures { λ r. ⌜ r ≡ indexSought start free owner address (now (table .entry)) ⌝ }
 {
-    let mut index = slave_plans::search_start(table.len());
+    let mut index = slave_plans::search_start(table.len(), start);
     while index < table.len() {
         let entry = entry_at(table, index);
-        if slave_plans::has_address(entry, owner, address) {
+        if slave_plans::is_sought(entry, free, owner, address) {
             return index;
         }
         index = index + 1;
     }
-    table.len()
+    index
 }
 
 // How many entries the owner holds, and the lowest free one: counted from the last entry on, so that the free one seen last is the lowest.
@@ -54,7 +59,7 @@ fn seek(table: &[Slave], owner: bool, address: u16) -> usize
 fn count(table: &[Slave], owner: bool) -> Occupancy
     ensures { λ r. ⌜ r ≡ occupancyCounted owner (now (table .entry)) ⌝ }
 {
-    let first = slave_plans::search_start(table.len());
+    let first = slave_plans::search_start(table.len(), 0);
     let mut index = table.len();
     let mut occupancy = slave_plans::count_start(index);
     while first < index {
@@ -65,22 +70,26 @@ fn count(table: &[Slave], owner: bool) -> Occupancy
     occupancy
 }
 
-// Enters a slave for its owner as the lowest free entry, and answers 0 or the refusal's number.
-pub fn enter(table: &mut [Slave], slave: Slave) -> u32
-    ensures { λ r. ⌜ (r ≡ enterRefusal slave (now (table .entry))) × (now (table .exit) ≡ entered slave (now (table .entry))) ⌝ }
+// Enters a slave for its owner as the lowest free entry, and answers 0 or the refusal's number, with the figures afterwards.
+pub fn enter(table: &mut [Slave], figures: Figures, slave: Slave) -> Kept
+    ensures { λ r. ⌜ (r ≡ enterKept figures slave (now (table .entry))) × (now (table .exit) ≡ enteredBy figures slave (now (table .entry))) ⌝ }
 {
-    let at = seek(table, slave.owner, slave.address);
-    let occupancy = count(table, slave.owner);
+    let at = seek(table, 0, false, slave.owner, slave.address);
+    let free = seek(table, figures.lowest, true, false, 0);
+    let behind = slave_figures::behind(free);
+    let next = seek(table, behind, true, false, 0);
+    let occupancy = slave_figures::occupancy(figures, slave.owner, free);
     let plan = slave_plans::enter(table.len(), at, occupancy, slave);
+    let kept = slave_figures::entered(plan.number, figures, slave.owner, next);
     put(table, plan.index, plan.entry);
-    plan.number
+    kept
 }
 
 // Finds the identifiers of an owner's slave by its address.
 pub fn find(table: &[Slave], owner: bool, address: u16) -> Found
     ensures { λ r. ⌜ r ≡ foundOf owner address (now (table .entry)) ⌝ }
 {
-    let at = seek(table, owner, address);
+    let at = seek(table, 0, false, owner, address);
     let entry = entry_at(table, at);
     slave_plans::find(table.len(), at, entry, address)
 }
@@ -89,20 +98,30 @@ pub fn find(table: &[Slave], owner: bool, address: u16) -> Found
 pub fn change_address(table: &mut [Slave], owner: bool, from: u16, to: u16) -> u32
     ensures { λ r. ⌜ (r ≡ changeRefusal owner from to (now (table .entry))) × (now (table .exit) ≡ changed owner from to (now (table .entry))) ⌝ }
 {
-    let at = seek(table, owner, from);
+    let at = seek(table, 0, false, owner, from);
     let entry = entry_at(table, at);
-    let other = seek(table, owner, to);
+    let other = seek(table, 0, false, owner, to);
     let plan = slave_plans::change(table.len(), at, entry, other, from, to);
     put(table, plan.index, plan.entry);
     plan.number
 }
 
-// Removes an owner's slave, whose entry is zeroed, and answers 0 or the refusal's number.
-pub fn remove(table: &mut [Slave], owner: bool, address: u16) -> u32
-    ensures { λ r. ⌜ (r ≡ removeRefusal owner address (now (table .entry))) × (now (table .exit) ≡ removed owner address (now (table .entry))) ⌝ }
+// Removes an owner's slave, whose entry is zeroed, and answers 0 or the refusal's number, with the figures afterwards.
+pub fn remove(table: &mut [Slave], figures: Figures, owner: bool, address: u16) -> Kept
+    ensures { λ r. ⌜ (r ≡ removeKept figures owner address (now (table .entry))) × (now (table .exit) ≡ removed owner address (now (table .entry))) ⌝ }
 {
-    let at = seek(table, owner, address);
+    let at = seek(table, 0, false, owner, address);
     let plan = slave_plans::remove(table.len(), at, address);
+    let kept = slave_figures::removed(plan.number, figures, owner, at);
     put(table, plan.index, plan.entry);
-    plan.number
+    kept
+}
+
+// Checks whether figures are the table's.
+pub fn check_figures(table: &[Slave], figures: Figures) -> Checked
+    ensures { λ r. ⌜ r ≡ checkOf figures (now (table .entry)) ⌝ }
+{
+    let no = count(table, false);
+    let yes = count(table, true);
+    slave_figures::check(table.len(), no, yes, figures)
 }

@@ -5,10 +5,10 @@ use Rattle.slave_plans.proofs.search_start.Statement.{statement}
 use Rattle.slave_plans.proofs.search_start.Tie as tie
 
 returns : tie.Need-returns
-returns c = start-right (c .before .args .size) (omega arith)
+returns c = start-right (c .before .args .size) (c .before .args .start) (omega arith)
 
 returns-2 : tie.Need-returns-2
-returns-2 c = start-wrong (c .before .args .size) (omega arith)
+returns-2 c = start-wrong (c .before .args .size) (c .before .args .start) (omega arith)
 
 pub search-start-spec : {M : Type 1} → statement M
 search-start-spec = tie.close (tie.spec returns returns-2)
