@@ -1,1 +1,5 @@
 pub mod Plans
+pub mod TrueFigures
+pub mod AnyFigures
+pub mod Checking
+pub mod Histories

@@ -12,7 +12,7 @@ use Rattle.slave_plans.specs.declared.Slave.{Slave}
 use Rattle.slave_plans.proofs.Indices.{Nowhere}
 
 -- an entry counts for one or for nothing
-abbrev one : Bool → ℕ
+abbrev pub one : Bool → ℕ
 one test = choose test 1 0
 
 one-most : (test : Bool) → one test ≤ 1
@@ -27,7 +27,7 @@ one-less false old implies = omega arith
 
 module _ (test : Slave → Bool) where
   -- another entry in place of one counts for itself, and that one no more
-  count-set : (t : List Slave) (i : ℕ) (e : Slave) → i < length t → count test (set t i e) + one (test (getD t i none)) ≡ count test t + one (test e)
+  pub count-set : (t : List Slave) (i : ℕ) (e : Slave) → i < length t → count test (set t i e) + one (test (getD t i none)) ≡ count test t + one (test e)
   unfolding count
   count-set [] i e inside = absurd (not-suc-le-zero inside)
   count-set (x ∷ t) zero e inside = omega arith

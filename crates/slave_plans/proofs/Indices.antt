@@ -1,13 +1,17 @@
 -- Laws of where entries stand, and of a table in which one entry is another.
-use Prim.Native.Nat.{ℕ, zero, suc, _≤_, _<_}
+use Prim.Native.Nat.{ℕ, zero, suc, _+_, _≤_, _<_}
 use native.Mathlib.Omega.{arith}
 use native.Mathlib.Nat.{not-suc-le-zero, le-of-suc-le-suc}
 use mathlib.Core.Path.{_≡_, refl, sym, ap, subst, _∙_}
+use native.Mathlib.Decide.{decLt}
+use mathlib.Core.Logic.{dite}
 use mathlib.Core.Bool.{Bool, true, false}
 use mathlib.Core.List.{List, [], _∷_}
-use lib.ListN.{length, getD, set}
+use lib.Dec.{ltb}
+use lib.ListN.{length, getD, set, drop}
+use borrow.Author.Tests.{lt-ltb, le-ltb}
 use Rattle.basics.specs.Choice.{choose}
-use Rattle.slave_plans.specs.Table.{none, lowest}
+use Rattle.slave_plans.specs.Table.{none, lowest, lowestFrom}
 use Rattle.slave_plans.specs.declared.Slave.{Slave}
 use Rattle.slave_plans.proofs.Entries.{by-test, false-unless}
 
@@ -76,3 +80,67 @@ module _ (test : Slave → Bool) where
   set-other [] i e old new = refl
   set-other (x ∷ t) zero e old new = lowest-next e t new ∙ sym (lowest-next x t old)
   set-other (x ∷ t) (suc i) e old new = ap (λ (n : ℕ). choose (test x) 0 (suc n)) (set-other t i e old new)
+
+  -- ── from an index on
+
+  from-first : (t : List Slave) → lowestFrom 0 test t ≡ lowest test t
+  from-first t = omega arith
+
+  from-next : (start : ℕ) (e : Slave) (t : List Slave) → lowestFrom (suc start) test (e ∷ t) ≡ suc (lowestFrom start test t)
+  from-next start e t = omega arith
+
+  -- what is found passes
+  pub from-here : (start : ℕ) (t : List Slave) → lowestFrom start test t < length t → test (getD t (lowestFrom start test t) none) ≡ true
+  from-here zero t l = rw (from-first t) (lowest-here t (omega (arith, l)) .here)
+  from-here (suc start) [] l = absurd (not-suc-le-zero l)
+  from-here (suc start) (e ∷ t) l = rw (from-next start e t) (from-here start t (omega (arith, l)))
+
+  -- and from an index in the table, its length is the most
+  pub from-most : (start : ℕ) (t : List Slave) → start ≤ length t → lowestFrom start test t ≤ length t
+  unfolding lowest
+  from-most zero t l = omega (arith, lowest-most t)
+    where
+      lowest-most : (t : List Slave) → lowest test t ≤ length t
+      lowest-most [] = omega arith
+      lowest-most (e ∷ t) = by-test (test e) (λ y. rw (lowest-first e t y) (omega arith)) (λ n. rw (lowest-next e t n) (omega (arith, lowest-most t)))
+  from-most (suc start) [] l = absurd (not-suc-le-zero l)
+  from-most (suc start) (e ∷ t) l = omega (arith, from-most start t (le-of-suc-le-suc l))
+
+  -- from the lowest on it is found
+  pub from-lowest : (t : List Slave) → lowestFrom (lowest test t) test t ≡ lowest test t
+  unfolding lowest
+  from-lowest [] = refl
+  from-lowest (e ∷ t) = by-test (test e)
+      (λ y. rw (lowest-first e t y) (from-first (e ∷ t) ∙ lowest-first e t y))
+      (λ n. rw (lowest-next e t n) (from-next (lowest test t) e t ∙ ap suc (from-lowest t)))
+
+  -- where an entry that doesn't pass takes the lowest one's place, the next one behind it is the lowest
+  pub lowest-behind : (t : List Slave) (e : Slave) → test e ≡ false → lowest test t < length t
+      → lowest test (set t (lowest test t) e) ≡ lowestFrom (suc (lowest test t)) test t
+  unfolding lowest
+  lowest-behind [] e new l = absurd (not-suc-le-zero l)
+  lowest-behind (x ∷ t) e new l = by-test (test x)
+      (λ y. rw (lowest-first x t y) (lowest-next e t new ∙ sym (from-next 0 x t ∙ ap suc (from-first t))))
+      (λ n.
+      let inside = le-of-suc-le-suc (subst (λ (i : ℕ). i < length (x ∷ t)) (lowest-next x t n) l) in
+      rw (lowest-next x t n) (lowest-next x (set t (lowest test t) e) n ∙ ap suc (lowest-behind t e new inside) ∙ sym (from-next (suc (lowest test t)) x t)))
+
+  -- where one that passes takes another's place, it is the lowest, or the one that was
+  pub lowest-lower : (t : List Slave) (i : ℕ) (e : Slave) → test e ≡ true → i < length t → lowest test (set t i e) ≡ choose (ltb i (lowest test t)) i (lowest test t)
+  unfolding lowest choose
+  lowest-lower [] i e new l = absurd (not-suc-le-zero l)
+  lowest-lower (x ∷ t) zero e new l = lowest-first e t new ∙ sym (either (lowest test (x ∷ t)))
+    where
+      either : (n : ℕ) → choose (ltb 0 n) 0 n ≡ 0
+      either zero = refl
+      either (suc n) = rw (lt-ltb 0 (suc n) (omega arith))
+  lowest-lower (x ∷ t) (suc i) e new l = by-test (test x)
+      (λ y. rw (lowest-first x t y, le-ltb (suc i) 0 (omega arith)) (lowest-first x (set t i e) y))
+      (λ n.
+      rw (lowest-next x t n)
+      (lowest-next x (set t i e) n ∙ ap suc (lowest-lower t i e new (le-of-suc-le-suc l)) ∙ both (lowest test t)))
+    where
+      both : (m : ℕ) → suc (choose (ltb i m) i m) ≡ choose (ltb (suc i) (suc m)) (suc i) (suc m)
+      both m = dite (decLt i m)
+          (λ below. rw (lt-ltb i m below, lt-ltb (suc i) (suc m) (omega (arith, below))))
+          (λ past. rw (le-ltb i m (omega (arith, past)), le-ltb (suc i) (suc m) (omega (arith, past))))

@@ -33,14 +33,14 @@ record Alike (o : Bool) (t t′ : List Slave) : Type 0 where
 abbrev pub Parted : ℕ → ℕ → Type 0
 Parted n n′ = ((n ≡ 16) × (n′ ≡ 0)) ⊎ ((n ≡ 0) × (n′ ≡ 16))
 
-abbrev SameOrParted : ℕ → ℕ → Type 0
+abbrev pub SameOrParted : ℕ → ℕ → Type 0
 SameOrParted n n′ = (n ≡ n′) ⊎ Parted n n′
 
 -- entering is answered the same in both, or so, where all lines before 16 are alike
-abbrev number : Bool → Bool → Bool → Bool → ℕ
+abbrev pub number : Bool → Bool → Bool → Bool → ℕ
 number x y z full = first ((x, 14) ∷ (y, 18) ∷ (z, 15) ∷ (full, 16) ∷ [])
 
-last-parts : (x y z w w′ : Bool) → SameOrParted (number x y z w) (number x y z w′)
+pub last-parts : (x y z w w′ : Bool) → SameOrParted (number x y z w) (number x y z w′)
 unfolding choose
 last-parts true y z w w′ = inl refl
 last-parts false true z w w′ = inl refl

@@ -80,7 +80,7 @@ module _ (op : Operation) (t : List Slave) where
   pub refused-stay : refusalOf op t ≢ 0 → tableAfter op t ≡ t
   refused-stay r = table-is op t ∙ when-refused (refusalOf op t) _ _ r
 
-  given : refusalOf op t ≡ 0 → tableAfter op t ≡ set t j e
+  pub given : refusalOf op t ≡ 0 → tableAfter op t ≡ set t j e
   given accepted = table-is op t ∙ when-none (refusalOf op t) _ _ accepted
 
   -- whatever is answered: P of the table as it was and of the table with the entry put
@@ -113,7 +113,7 @@ module _ (o : Bool) (a : ℕ) (t : List Slave) where
   found-named : foundOf o a t .number ≡ 0 → Owns
   found-named accepted = owns (named-inside (Find o a) t accepted)
 
-  removed-named : removeRefusal o a t ≡ 0 → Owns
+  pub removed-named : removeRefusal o a t ≡ 0 → Owns
   removed-named accepted = owns (named-inside (Remove o a) t accepted)
 
 pub changed-named : (o : Bool) (from to : ℕ) (t : List Slave) → changeRefusal o from to t ≡ 0 → Owns o from t

@@ -6,7 +6,7 @@ use native.Mathlib.Decide.{ℕ-discrete, decLt}
 use mathlib.Core.Logic.{_≢_, _↔_, _⊎_, inl, inr, dite}
 use mathlib.Core.Bool.{Bool, true, false, not, true≢false}
 use mathlib.Core.List.{List, [], _∷_}
-use lib.Dec.{eqb, ltb}
+use lib.Dec.{eqb, leb, ltb}
 use lib.ListN.{length}
 use borrow.Author.Tests.{lt-ltb, eq-eqb, ne-eqb, eqb-true, eqb-false, not-false, lt-leb, le-leb, le-ltb, leb-true, leb-false, ltb-false}
 use Rattle.basics.specs.Choice.{choose, first}
@@ -15,7 +15,7 @@ use Rattle.basics.proofs.Table.{line-passed}
 use Rattle.slave_id.specs.SlaveId.{tooWide}
 use Rattle.slave_id.proofs.Writing.{wide-exactly}
 use Rattle.slave_plans.specs.Table.{isFree, belongsTo, hasAddress, lowest, count, indexOf, occupancyOf}
-use Rattle.slave_plans.specs.Answer.{notSlave, isAbsent, isFull, isTaken, findLines, enterRefusal, changeRefusal, removeRefusal}
+use Rattle.slave_plans.specs.Answer.{notSlave, isAbsent, isFull, isTaken, enterLines, findLines, enterRefusal, changeRefusal, removeRefusal}
 use Rattle.slave_plans.specs.declared.Slave.{Slave}
 use Rattle.slave_plans.specs.declared.Occupancy.{Occupancy}
 use Rattle.slave_plans.proofs.Addresses.{SlaveAddress, slave-exactly, no-slave}
@@ -122,6 +122,19 @@ module _ (o : Bool) (a : ℕ) (t : List Slave) where
   remove-exactly = findable-exactly
 
 -- ── entering
+
+-- by any occupancy: the table's length, a number below 24, and a free entry in the table
+pub enter-room : (size at : ℕ) (occupancy : Occupancy) (s : Slave) → first (enterLines size at occupancy s) ≡ 0
+    → (size ≡ 32) × (occupancy .held < 24) × (occupancy .free < size)
+unfolding isFull choose
+enter-room size at occupancy s e =
+    let right = line-passed (not (eqb size 32)) 24 _ (omega arith) e in
+    let address = line-passed (notSlave (s .address)) 14 _ (omega arith) (right .1) in
+    let narrow = line-passed (tooWide (s .product) (s .device)) 18 _ (omega arith) (address .1) in
+    let fresh = line-passed (ltb at size) 15 _ (omega arith) (narrow .1) in
+    let roomy = line-passed (isFull size occupancy) 16 0 (omega arith) (fresh .1) in
+    let both = neither (leb 24 (occupancy .held)) (leb size (occupancy .free)) (roomy .0) in
+    (length-exactly size .0 (right .0), leb-false _ _ (both .0), leb-false _ _ (both .1))
 
 pub record MayEnter (s : Slave) (t : List Slave) : Type 0 where
   pub size : length t ≡ 32
