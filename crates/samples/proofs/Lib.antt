@@ -1,4 +1,5 @@
 pub mod Questions
 pub mod Samples
 pub mod Slaves
+pub mod Figures
 pub mod Table

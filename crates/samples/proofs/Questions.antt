@@ -37,6 +37,11 @@ use Rattle.slave_plans.specs.Answer.{enterRefusal, entered, foundOf, changeRefu
 use Rattle.slave_plans.specs.History.{Operation, Enter, Find, Change, Remove, tableOf, answersOf, ownHistory}
 use Rattle.slave_plans.specs.declared.Slave.{Slave}
 use Rattle.slave_plans.specs.declared.Found as SlaveFound
+use Rattle.slave_figures.specs.Keeping.{figuresOf, enterKept, enteredBy, removeKept, checkOf}
+use Rattle.slave_figures.specs.History.{State}
+use Rattle.slave_figures.specs.History as Kept
+use Rattle.slave_figures.specs.declared.Figures.{Figures}
+use Rattle.slave_figures.specs.declared.Checked.{Checked}
 
 -- an output is given by its room
 pub data Question : Type 0 where
@@ -67,6 +72,13 @@ pub data Question : Type 0 where
   answered : Bool → List Operation → Question
   left : List Operation → Question
   owned : Bool → List Operation → Question
+  countFigures : List Slave → Question
+  enterBy : Figures → Slave → List Slave → Question
+  removeBy : Figures → Bool → ℕ → List Slave → Question
+  checkFigures : Figures → List Slave → Question
+  answeredBy : Bool → List Operation → Question
+  leftBy : List Operation → Question
+  ownedBy : Bool → List Operation → Question
   verdict : Verdict → Question
 
 -- an output before a call
@@ -125,6 +137,15 @@ abbrev pub tableTold : List Slave → List ℕ
 tableTold [] = []
 tableTold (e ∷ rest) = e .address ∷ boolTold (e .owner) ∷ e .product ∷ e .device ∷ tableTold rest
 
+abbrev pub figuresTold : Figures → List ℕ
+figuresTold f = f .no ∷ f .yes ∷ f .lowest ∷ []
+
+abbrev checkedTold : Checked → List ℕ
+checkedTold c = c .number ∷ boolTold (c .right) ∷ []
+
+abbrev stateTold : State → List ℕ
+stateTold s = figuresTold (s .figures) ++ tableTold (s .table)
+
 -- an owner's answers in a history
 abbrev answersTold : List (Operation × SlaveFound.Found) → List ℕ
 answersTold [] = []
@@ -170,6 +191,13 @@ answer (removeSlave o a t) = removeRefusal o a t ∷ tableTold (removed o a t)
 answer (answered o history) = answersTold (answersOf o history)
 answer (left history) = tableTold (tableOf history)
 answer (owned o history) = ownTold (ownHistory o history)
+answer (countFigures t) = figuresTold (figuresOf t)
+answer (enterBy f s t) = let kept = enterKept f s t in kept .number ∷ (figuresTold (kept .figures) ++ tableTold (enteredBy f s t))
+answer (removeBy f o a t) = let kept = removeKept f o a t in kept .number ∷ (figuresTold (kept .figures) ++ tableTold (removed o a t))
+answer (checkFigures f t) = checkedTold (checkOf f t)
+answer (answeredBy o history) = answersTold (Kept.answersOf o history)
+answer (leftBy history) = stateTold (Kept.stateOf history)
+answer (ownedBy o history) = ownTold (Kept.ownHistory o history)
 answer (verdict v) = number v ∷ []
 
 -- a question and the answer that the papers give

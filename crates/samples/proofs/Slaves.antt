@@ -52,13 +52,13 @@ slaveIds =
 abbrev unchanged : ℕ → List Slave → List ℕ
 unchanged number t = number ∷ tableTold t
 
-abbrev full : List Slave
+abbrev pub full : List Slave
 full = replicate 32 (slave no 0x2010 1 2)
 
-abbrev short : List Slave
+abbrev pub short : List Slave
 short = replicate 31 none
 
-abbrev long : List Slave
+abbrev pub long : List Slave
 long = replicate 33 (slave no 0x2010 1 2)
 
 abbrev lastTaken : List Slave
@@ -164,7 +164,7 @@ twoOwners =
     ∷ []
 
 -- both owners' operations, one after the other: with the same addresses, and up to the 25th of one and the ninth of the other
-abbrev interleaved : List Operation
+abbrev pub interleaved : List Operation
 interleaved =
     Enter (slave no 0x2010 1 2)
     ∷ Enter (slave yes 0x2010 3 4)
@@ -182,7 +182,7 @@ interleaved =
     ∷ Find yes 0x2011
     ∷ []
 
-abbrev crowded : List Operation
+abbrev pub crowded : List Operation
 crowded =
     map Enter (slavesFrom no 0x2100 24 ++ slavesFrom yes 0x2100 8)
     ++ (Enter (slave no 0x2200 3 4)
@@ -201,17 +201,17 @@ ownIn owner [] = []
 ownIn owner (operation ∷ rest) = choose (Bool·beq (ownerOf operation) owner) (operation ∷ ownIn owner rest) (ownIn owner rest)
 
 -- an answer that is a number alone
-abbrev alone : ℕ → List ℕ
+abbrev pub alone : ℕ → List ℕ
 alone number = number ∷ 0 ∷ 0 ∷ []
 
-abbrev interleavedNo : List ℕ
+abbrev pub interleavedNo : List ℕ
 interleavedNo = alone 0 ++ (alone 15 ++ ((0 ∷ 1 ∷ 2 ∷ []) ++ (alone 17 ++ (alone 0 ++ (alone 14 ++ (alone 18 ++ alone 17))))))
 
-abbrev interleavedYes : List ℕ
+abbrev pub interleavedYes : List ℕ
 interleavedYes = alone 0 ++ ((0 ∷ 3 ∷ 4 ∷ []) ++ (alone 0 ++ (alone 17 ++ ((0 ∷ 3 ∷ 4 ∷ []) ++ (0 ∷ 3 ∷ 4 ∷ [])))))
 
 -- their own histories, each operation with whether it is answered 16
-abbrev ownedNo : List (Operation × Bool)
+abbrev pub ownedNo : List (Operation × Bool)
 ownedNo =
     (Enter (slave no 0x2010 1 2), false)
     ∷ (Enter (slave no 0x2010 5 6), false)
@@ -223,7 +223,7 @@ ownedNo =
     ∷ (Remove no 0x2010, false)
     ∷ []
 
-abbrev ownedYes : List (Operation × Bool)
+abbrev pub ownedYes : List (Operation × Bool)
 ownedYes =
     map (λ (s : Slave). (Enter s, false)) (slavesFrom yes 0x2100 8)
     ++ ((Enter (slave yes 0x2200 3 4), true)
