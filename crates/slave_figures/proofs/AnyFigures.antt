@@ -12,29 +12,33 @@ use Rattle.basics.specs.Choice.{choose}
 use Rattle.basics.proofs.Choice.{choose-by}
 use Rattle.basics.proofs.Table.{when-none, when-refused}
 use Rattle.slave_id.specs.SlaveId.{tooWide}
-use Rattle.slave_plans.specs.Table.{none, isFree, lowestFrom, indexOf, occupancyOf}
-use Rattle.slave_plans.specs.Answer.{notSlave, isFull, enterRefusal, changeRefusal, removeRefusal}
-use Rattle.slave_plans.specs.History.{Operation, Enter, Find, Change, Remove, numberAlone, answerOf, tableAfter}
+use Rattle.slave_plans.specs.Table.{none, isFree, indexOf}
+use Rattle.slave_plans.specs.Answer.{notSlave, isFull, changeRefusal, removeRefusal}
+use Rattle.slave_plans.specs.History.{Operation, Enter, Find, Change, Remove, numberAlone}
 use Rattle.slave_plans.specs.declared.Slave.{Slave}
 use Rattle.slave_plans.proofs.Indices.{from-here, from-most}
 use Rattle.slave_plans.proofs.Refusals.{enter-room}
-use Rattle.slave_plans.proofs.Operations.{refusalOf}
-use Rattle.slave_plans.proofs.Isolation.{Parted, SameOrParted, number, last-parts}
-use Rattle.slave_figures.specs.Keeping.{heldBy, freeBy, occupancyBy, figuresWith, figuresMore, figuresLess, enterRefusalBy}
+use Rattle.slave_plans.proofs.Isolation.{Parted, SameOrParted, last-parts}
+use Rattle.slave_figures.specs.Keeping.{figuresOf, heldBy, freeBy, occupancyBy, figuresWith, enterRefusalBy}
 use Rattle.slave_figures.specs.History.{State, answerIn, stateAfter}
 use Rattle.slave_figures.specs.declared.Figures.{Figures}
+use Rattle.slave_figures.proofs.TrueFigures.{counted}
 
 -- ── what doesn't depend on them
 
--- "only 16 .. [is] free": an operation is answered as by counting, or 16 where that gives 0, or 0 where that gives 16
-pub any-answer : (op : Operation) (s : State) → (answerIn op s ≡ answerOf op (s .table)) ⊎ Parted (answerIn op s .number) (refusalOf op (s .table))
-unfolding enterRefusalBy enterRefusal choose
+-- "only 16 .. [is] free": an operation is answered as by true figures, or one of the two is 16 where the other is 0
+pub any-answer : (op : Operation) (s : State)
+    → (answerIn op s ≡ answerIn op (counted (s .table))) ⊎ Parted (answerIn op s .number) (answerIn op (counted (s .table)) .number)
+unfolding enterRefusalBy choose
 any-answer (Enter slave) s =
-    number-alone (behind-24 (not (eqb (length t) 32)) (last-parts (notSlave (slave .address)) (tooWide (slave .product) (slave .device)) (ltb (indexOf (slave .owner) (slave .address) t) (length t))
-    (isFull (length t) (occupancyBy (slave .owner) (s .figures) t)) (isFull (length t) (occupancyOf (slave .owner) t))))
+    number-alone (behind-24 (not (eqb (length t) 32)) (last-parts (notSlave (slave .address)) (tooWide (slave .product) (slave .device))
+    (ltb (indexOf (slave .owner) (slave .address) t) (length t)) (full (s .figures)) (full (figuresOf t))))
   where
     t : List Slave
     t = s .table
+
+    full : Figures → Bool
+    full f = isFull (length t) (occupancyBy (slave .owner) f t)
 
     behind-24 : (wrong : Bool) {n n′ : ℕ} → SameOrParted n n′ → SameOrParted (choose wrong 24 n) (choose wrong 24 n′)
     behind-24 true either = inl refl
@@ -47,14 +51,15 @@ any-answer (Find o a) s = inl refl
 any-answer (Change o from to) s = inl refl
 any-answer (Remove o a) s = inl refl
 
--- and every operation but entering answers and leaves the table as by counting
+-- and every operation but entering leaves the table as by true ones
 abbrev pub IsEnter : Operation → Type 0
 IsEnter (Enter slave) = Unit
 IsEnter (Find o a) = ⊥
 IsEnter (Change o from to) = ⊥
 IsEnter (Remove o a) = ⊥
 
-pub any-others : (op : Operation) (s : State) → (IsEnter op → ⊥) → (answerIn op s ≡ answerOf op (s .table)) × (stateAfter op s .table ≡ tableAfter op (s .table))
+pub any-others : (op : Operation) (s : State) → (IsEnter op → ⊥)
+    → (answerIn op s ≡ answerIn op (counted (s .table))) × (stateAfter op s .table ≡ stateAfter op (counted (s .table)) .table)
 any-others (Enter slave) s others = absurd (others tt)
 any-others (Find o a) s others = (refl, refl)
 any-others (Change o from to) s others = (refl, refl)
