@@ -9,6 +9,7 @@ use lib.Dec.{eqb}
 use lib.ListN.{length, getD, drop, length-drop, drop-of-length-le}
 use lib.Seq.{drop-cons}
 use Rattle.basics.specs.Choice.{choose}
+use Rattle.basics.proofs.Choice.{choose-by}
 use Rattle.slave_plans.specs.Table.{none, isFree, belongsTo, lowest, count, occupancyOf}
 use Rattle.slave_plans.specs.Plan.{searchStart, occupancyStart, occupancyWith, occupancyCounted}
 use Rattle.slave_plans.specs.declared.Slave.{Slave}
@@ -73,13 +74,13 @@ module _ (owner : Bool) (table : List Slave) where
       r-is ∙ ap₂ (λ (entry : Slave) (above : ℕ). occupancyWith owner index entry (occupancy-from owner above table)) entry-is next
       ∙ counted-with index (omega (arith, next, within)) fits
 
-  -- it starts behind the last entry, and ends where a search would start
+  -- it starts behind the last entry, and ends where a search from the first would start
   pub counting-starts : occupancyStart (length table) ≡ occupancy-from owner (length table) table
   counting-starts =
       let all = le-refl (length table) in
       same-numbers _ _ (sym (none-left (belongsTo owner) table (length table) all)) (omega (arith, nowhere-left isFree table (length table) all))
 
-  pub counting-ends : (index : ℕ) → index ≡ searchStart (length table) → occupancy-from owner index table ≡ occupancyCounted owner table
+  pub counting-ends : (index : ℕ) → index ≡ searchStart (length table) 0 → occupancy-from owner index table ≡ occupancyCounted owner table
   unfolding choose
   counting-ends index e = rw e (go (eqb (length table) 32))
     where
@@ -87,3 +88,7 @@ module _ (owner : Bool) (table : List Slave) where
           → occupancy-from owner (choose right 0 (length table)) table ≡ choose right (occupancyOf owner table) (occupancyStart (length table))
       go true = same-numbers _ _ refl (zero-add (lowest isFree table))
       go false = sym counting-starts
+
+pub search-within : (size index : ℕ) → index ≡ searchStart size 0 → index ≤ size
+unfolding choose
+search-within size index e = choose-by (λ (start : ℕ). index ≡ start → index ≤ size) (eqb size 32) (λ right is. omega (arith, is)) (λ wrong is. omega (arith, is)) e

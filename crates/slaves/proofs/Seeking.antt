@@ -2,16 +2,15 @@
 use Prim.Native.Nat.{ℕ, suc, _+_, _<_, _≤_}
 use native.Mathlib.Omega.{arith}
 use native.Mathlib.Nat.{le-refl}
-use mathlib.Core.Path.{_≡_, ap, _∙_}
+use mathlib.Core.Path.{_≡_, refl, ap, _∙_}
 use mathlib.Core.Bool.{Bool, true, false}
 use mathlib.Core.List.{List}
 use lib.Dec.{eqb}
 use lib.ListN.{length, getD, drop, drop-of-length-le}
 use lib.Seq.{drop-cons}
 use Rattle.basics.specs.Choice.{choose}
-use Rattle.basics.proofs.Choice.{choose-by}
-use Rattle.slave_plans.specs.Table.{none, hasAddress, lowest, indexOf}
-use Rattle.slave_plans.specs.Plan.{searchStart, indexSought}
+use Rattle.slave_plans.specs.Table.{none, lowest, lowestFrom}
+use Rattle.slave_plans.specs.Plan.{searchStart, isSought, indexSought}
 use Rattle.slave_plans.specs.declared.Slave.{Slave}
 
 module _ (test : Slave → Bool) (table : List Slave) (index : ℕ) where
@@ -34,17 +33,15 @@ module _ (test : Slave → Bool) (table : List Slave) (index : ℕ) where
   unfolding lowest
   nowhere-left l = ap (lowest test) (drop-of-length-le table l)
 
--- where the search begins, its invariant holds: nothing was passed, or the table has a wrong length
-pub search-within : (size index : ℕ) → index ≡ searchStart size → index ≤ size
+-- where the search begins, nothing was passed, or the table has a wrong length
+pub search-starts : (start : ℕ) (free owner : Bool) (address : ℕ) (table : List Slave) (index : ℕ) → index ≡ searchStart (length table) start
+    → indexSought start free owner address table ≡ lowestFrom index (isSought free owner address) table
 unfolding choose
-search-within size index e = choose-by (λ (start : ℕ). index ≡ start → index ≤ size) (eqb size 32) (λ right is. omega (arith, is)) (λ wrong is. omega (arith, is)) e
-
-pub search-starts : (owner : Bool) (address : ℕ) (table : List Slave) (index : ℕ) → index ≡ searchStart (length table)
-    → indexSought owner address table ≡ index + indexOf owner address (drop index table)
-unfolding choose
-search-starts owner address table index e = rw e (go (eqb (length table) 32))
+search-starts start free owner address table index e = rw e (go (eqb (length table) 32))
   where
-    go : (right : Bool) → choose right (indexOf owner address table) (length table)
-        ≡ choose right 0 (length table) + indexOf owner address (drop (choose right 0 (length table)) table)
-    go true = omega arith
-    go false = omega (arith, nowhere-left (hasAddress owner address) table (length table) (le-refl (length table)))
+    test : Slave → Bool
+    test = isSought free owner address
+
+    go : (right : Bool) → choose right (lowestFrom start test table) (length table) ≡ lowestFrom (choose right start (length table)) test table
+    go true = refl
+    go false = omega (arith, nowhere-left test table (length table) (le-refl (length table)))
