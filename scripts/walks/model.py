@@ -24,6 +24,7 @@ class Type:
     tells: str  # the row's relation tells the machine values
     makes: str  # what a value owns is had for nothing
     lawful: str  # the row's laws
+    literal: str = ""  # of a type that has literals: one is a value of it
     fields: dict[str, str] = field(default_factory=dict)  # of a struct: each field's type, in the struct's order
     prefix: str = ""  # of a struct: how its lemmas' names begin
 
@@ -39,6 +40,7 @@ def number(name: str, width: str) -> Type:
         tells=f"uint-tells {width}",
         makes=f"(uint-makes 𝓤 H A W {width})",
         lawful=f"uint-lawful 𝓤 H A W {width}",
+        literal="(refl, lit< tt)",
     )
 
 
@@ -53,6 +55,7 @@ def boolean() -> Type:
         tells="bool-tells",
         makes="(bool-makes 𝓤 H A W)",
         lawful="bool-lawful 𝓤 H A W",
+        literal="refl",
     )
 
 
@@ -103,7 +106,7 @@ class Contract:
 
 @dataclass(frozen=True)
 class Argument:
-    """What stands for a value in the code: 'table', 'length', 'literal' with its digits, or 'local' with its name and perhaps a field."""
+    """What stands for a value in the code: 'table', 'length', 'literal' with its text, or 'local' with its name and perhaps a field."""
 
     kind: str
     name: str = ""
@@ -172,20 +175,21 @@ def signature(path: str) -> Signature:
 def contract(path: str) -> Contract:
     """What a function ensures, with places for its parameters, the table before and after, and the result."""
     parts, of = source(path), signature(path)
-    text = parts["ensures"].replace("(now (table .entry))", "{table}").replace("now (table .exit)", "{after}")
+    text = parts["ensures"].replace("{", "{{").replace("}", "}}")
+    text = text.replace("(now (table .entry))", "{table}").replace("now (table .exit)", "{after}")
     for name, place in [*((name, name) for name in of.parameters), (parts["bound"], "result")]:
-        text = re.sub(rf"(?<![\w.{{·-]){name}(?![\w}}·-])", f"{{{place}}}", text)
+        text = re.sub(rf"(?<![\w.{{·-]){name}(?![\w}}·-]| =)", f"{{{place}}}", text)
     return Contract(of, text)
 
 
 def argument(text: str) -> Argument:
-    """From `table`, `table.len()`, `0`, `at` or `plan.index`."""
+    """From `table`, `table.len()`, `0`, `false`, `at` or `plan.index`."""
     text = text.strip()
     if text == TABLE:
         return Argument("table")
     if text == f"{TABLE}.len()":
         return Argument("length")
-    if text.isdigit():
+    if text.isdigit() or text in ("true", "false"):
         return Argument("literal", text)
     name, _, of_it = text.partition(".")
     return Argument("local", name, of_it)

@@ -230,10 +230,10 @@ def own_modules(walk: Walk, crate: str, callees: dict[str, Contract]) -> list[st
 
 
 def shared_modules(crate: str) -> dict[str, str]:
-    """The definitions and lemmas of crate slaves that a walk may name."""
-    specs, proofs = module_of("slave_plans", crate, "specs"), module_of("slaves", crate, "proofs")
+    """The definitions, and the lemmas of crate slaves, that a walk may name."""
+    proofs = module_of("slaves", crate, "proofs")
     fields = [f"{of.prefix}-{lemma}" for of in TYPES.values() if of.prefix for lemma in [*STRUCT_LEMMAS, *of.fields]]
-    modules = {f"{specs}.{module}": names for module, names in DEFINITIONS.items()}
+    modules = {module_of(path, crate, "specs"): names for path, names in DEFINITIONS.items()}
     return modules | {f"{proofs}.Structs": " ".join(fields)} | {f"{proofs}.{module}": names for module, names in LEMMAS.items()}
 
 

@@ -211,7 +211,7 @@ class Steps:
     def value(self, argument: Argument, of: str = "") -> Value:
         """What an argument is in the logic; `of` is the type of the parameter that a literal stands for."""
         if argument.kind == "literal":
-            return Value(argument.name, "(refl, lit< tt)", TYPES[of])
+            return Value(argument.name, TYPES[of].literal, TYPES[of])
         if argument.kind == "length":
             return Value(f"(length {TABLE})", "(refl, room .0)", TYPES["usize"])
         whole = self.values[argument.name]
@@ -223,7 +223,7 @@ class Steps:
     def operand(self, argument: Argument, temporaries: Temporaries, more: int = 0) -> str:
         """The MIR's operand for an argument."""
         if argument.kind == "literal":
-            return "lit ! tt"
+            return "lit ! tt" if argument.name.isdigit() else f"{argument.name}-lit !"
         if argument.kind == "length":
             return load_at(self.place(temporaries.length, more))
         if argument.kind == "table" and temporaries.borrow:

@@ -180,6 +180,19 @@ enter-exactly s t = (
       ),
 )
 
+-- where it isn't refused, by any occupancy: the table has 32 entries, the owner holds few enough, and one is free
+pub enter-passed : (size at : ℕ) (occupancy : Occupancy) (s : Slave) → first (enterLines size at occupancy s) ≡ 0
+    → (size ≡ 32) × (occupancy .held < mostHeld) × (occupancy .free < size)
+unfolding isFull choose
+enter-passed size at occupancy s e =
+    let right = line-passed (not (eqb size 32)) 24 _ (omega arith) e in
+    let address = line-passed (notSlave (s .address)) 14 _ (omega arith) (right .1) in
+    let narrow = line-passed (tooWide (s .product) (s .device)) 18 _ (omega arith) (address .1) in
+    let fresh = line-passed (ltb at size) 15 _ (omega arith) (narrow .1) in
+    let roomy = line-passed (isFull size occupancy) 16 0 (omega arith) (fresh .1) in
+    let room = neither (leb mostHeld (occupancy .held)) _ (roomy .0) in
+    (length-exactly size .0 (right .0), leb-false _ _ (room .0), leb-false _ _ (room .1))
+
 -- and which refusal comes where it isn't
 module _ (s : Slave) (t : List Slave) where
   abbrev named : Slave → Bool

@@ -1,8 +1,10 @@
 -- What is planned from what was seen of the table is what the definitions say of the table.
-use Prim.Native.Nat.{ℕ}
-use native.Mathlib.Nat.{le-refl}
+use Prim.Native.Nat.{ℕ, suc, _+_, _<_, _≤_, _%_, _^_}
+use native.Mathlib.Nat.{le-refl, zero-add}
+use native.Mathlib.Numerals.{add-one}
+use native.Mathlib.Omega.{arith}
 use mathlib.Core.Path.{_≡_, refl, sym, ap, ap₂, _∙_}
-use native.Mathlib.Decide.{ℕ-discrete}
+use native.Mathlib.Decide.{ℕ-discrete, decLt}
 use mathlib.Core.Logic.{_≢_, dite}
 use mathlib.Core.Bool.{Bool, true, false}
 use mathlib.Core.List.{List}
@@ -10,14 +12,22 @@ use lib.Dec.{eqb}
 use lib.ListN.{length, getD, set}
 use borrow.Author.Tests.{eq-eqb, ne-eqb, eqb-true}
 use Rattle.basics.specs.Choice.{choose}
-use Rattle.slave_plans.specs.Table.{none, indexOf, occupancyOf}
-use Rattle.slave_plans.specs.Answer.{tableWith, enterRefusal, entered, foundBy, foundOf, entryOf, changeRefusal, readdressed, changed, removeRefusal, removed}
-use Rattle.slave_plans.specs.Plan.{indexSought, occupancyCounted, planBy, enterPlan, changePlan, removePlan}
+use Rattle.slave_plans.specs.Table.{none, isFree, lowestFrom, indexOf, occupancyOf}
+use Rattle.slave_plans.specs.Answer.{tableWith, foundBy, foundOf, entryOf, changeRefusal, readdressed, changed, removeRefusal, removed}
+use Rattle.slave_plans.specs.Plan.{isSought, indexSought, occupancyCounted, planBy, enterPlan, changePlan, removePlan}
 use Rattle.slave_plans.specs.declared.Slave.{Slave}
 use Rattle.slave_plans.specs.declared.Occupancy.{Occupancy}
 use Rattle.slave_plans.specs.declared.Found.{Found}
 use Rattle.slave_plans.specs.declared.Plan.{Plan}
+use Rattle.slave_plans.proofs.Refusals.{enter-passed, remove-exactly}
+use Rattle.slave_figures.specs.Keeping.{heldBy, freeBy, occupancyBy, figuresOf, figuresWith, figuresMore, figuresLess, keptBy, enterRefusalBy, enteredBy, enterKept, removeKept, checkBy, checkOf}
+use Rattle.slave_figures.specs.Plan.{indexBehind, freeOr32, enterFigures, removeFigures, figuresCounted}
+use Rattle.slave_figures.specs.declared.Figures.{Figures}
+use Rattle.slave_figures.specs.declared.Kept.{Kept}
+use Rattle.slave_figures.specs.declared.Checked.{Checked}
+use Rattle.slave_figures.proofs.Plans.{behind-below, free-below, free-none, kept-refused, check-24}
 use Rattle.slaves.proofs.Structs.{set-past}
+use Rattle.slaves.proofs.Seeking.{lowest-within}
 
 -- a plan by a refusal's number or 0, carried out: a refused one puts its entry past the end, where nothing changes
 module _ {p : Plan} {after : List Slave} (refusal index : ℕ) (entry : Slave) (table : List Slave) (put : after ≡ set table (p .index) (p .entry)) where
@@ -57,33 +67,73 @@ module _ (size : ℕ) (wrong : size ≢ 32) where
   unfolding choose
   remove-unseen at address = rw (ne-eqb size 32 wrong)
 
--- in a table of 32 entries an address was sought where it stands, and all entries were counted
-module _ (owner : Bool) (table : List Slave) (right : length table ≡ 32) where
-  sought : (address : ℕ) → indexSought owner address table ≡ indexOf owner address table
-  unfolding choose
-  sought address = rw (eq-eqb (length table) 32 right)
+-- in a table of 32 entries an address was sought where it stands, a free entry from the start on, and all entries were counted
+module _ (table : List Slave) (right : length table ≡ 32) where
+  sought : (owner : Bool) (address : ℕ) → indexSought 0 false owner address table ≡ indexOf owner address table
+  unfolding isSought choose
+  sought owner address = rw (eq-eqb (length table) 32 right) (zero-add (indexOf owner address table))
 
-  counted : occupancyCounted owner table ≡ occupancyOf owner table
+  sought-free : (start : ℕ) → indexSought start true false 0 table ≡ lowestFrom start isFree table
+  unfolding isSought choose
+  sought-free start = rw (eq-eqb (length table) 32 right)
+
+  counted : (owner : Bool) → occupancyCounted owner table ≡ occupancyOf owner table
   unfolding choose
-  counted = rw (eq-eqb (length table) 32 right)
+  counted owner = rw (eq-eqb (length table) 32 right)
+
+-- ── the figures afterwards
+
+-- where it is refused, what they would have become doesn't matter
+kept-same : (refusal : ℕ) (figures : Figures) {a b : Figures} → (refusal ≡ 0 → a ≡ b) → keptBy refusal a figures ≡ keptBy refusal b figures
+kept-same refusal figures {a} {b} same =
+    dite (ℕ-discrete refusal 0)
+    (λ given. ap (λ (after : Figures). keptBy refusal after figures) (same given))
+    (λ refused. sym (kept-refused refusal a figures refused) ∙ kept-refused refusal b figures refused)
+
+free-within : (index : ℕ) → index ≤ 32 → freeOr32 index ≡ index
+free-within index within =
+    dite (decLt index 32)
+    (λ below. sym (free-below index below))
+    (λ over. sym (free-none index (omega (arith, over))) ∙ omega (arith, over, within))
 
 -- ── what each function saw, planned and put, as its walk has it at the end
 
-pub enter-meets : {at : ℕ} {occupancy : Occupancy} {p : Plan} {after : List Slave} (slave : Slave) (table : List Slave)
-    → at ≡ indexSought (slave .owner) (slave .address) table → occupancy ≡ occupancyCounted (slave .owner) table
-    → p ≡ enterPlan (length table) at occupancy slave
-    → after ≡ set table (p .index) (p .entry) → (p .number ≡ enterRefusal slave table) × (after ≡ entered slave table)
-unfolding enterRefusal
-enter-meets {at} {occupancy} slave table at-is occupancy-is p-is put =
+module _ {free behind next : ℕ} (figures : Figures) (table : List Slave) where
+  -- the free entry behind that which is taken: none of the numbers comes near to where it would be cut off
+  next-free : length table ≡ 32 → freeBy figures table < length table
+      → free ≡ indexSought (figures .lowest) true false 0 table → behind ≡ indexBehind free → next ≡ indexSought behind true false 0 table
+      → freeOr32 next ≡ lowestFrom (suc (freeBy figures table)) isFree table
+  next-free right room free-is behind-is next-is =
+      let taken : free ≡ freeBy figures table = free-is ∙ sought-free table right (figures .lowest) in
+      let one-behind : behind ≡ suc (freeBy figures table) =
+      behind-is ∙ sym (behind-below free (omega (arith, taken, room, right))) ∙ add-one free ∙ ap suc taken in
+      let found = next-is ∙ sought-free table right behind ∙ ap (λ (start : ℕ). lowestFrom start isFree table) one-behind in
+      ap freeOr32 found ∙ free-within _ (omega (arith, right, lowest-within isFree table (suc (freeBy figures table)) room))
+
+pub enter-meets : {at free behind next : ℕ} {occupancy : Occupancy} {p : Plan} {kept : Kept} {after : List Slave}
+    (figures : Figures) (slave : Slave) (table : List Slave) → at ≡ indexSought 0 false (slave .owner) (slave .address) table
+    → free ≡ indexSought (figures .lowest) true false 0 table → behind ≡ indexBehind free → next ≡ indexSought behind true false 0 table
+    → occupancy ≡ record { held = heldBy (slave .owner) figures; free = free } → p ≡ enterPlan (length table) at occupancy slave
+    → kept ≡ enterFigures (p .number) figures (slave .owner) next
+    → after ≡ set table (p .index) (p .entry) → (kept ≡ enterKept figures slave table) × (after ≡ enteredBy figures slave table)
+unfolding enterRefusalBy
+enter-meets {at} {next = next} {occupancy = occupancy} figures slave table at-is free-is behind-is next-is occupancy-is p-is kept-is put =
     let owner = slave .owner in
-    carried-out (enterRefusal slave table) (occupancyOf owner table .free) slave table put
+    let refusal = enterRefusalBy figures slave table in
+    let stands = indexOf owner (slave .address) table in
+    let by-figures = occupancyBy owner figures table in
+    let done = carried-out refusal (freeBy figures table) slave table put
     (p-is ∙ dite (ℕ-discrete (length table) 32)
     (λ right.
-    ap₂ (λ (at : ℕ) (occupancy : Occupancy). enterPlan (length table) at occupancy slave)
-    (at-is ∙ sought owner table right (slave .address)) (occupancy-is ∙ counted owner table right))
-    (λ wrong.
-    enter-unseen (length table) wrong at occupancy slave
-    ∙ sym (enter-unseen (length table) wrong (indexOf owner (slave .address) table) (occupancyOf owner table) slave)))
+    ap₂ (λ (at : ℕ) (occupancy : Occupancy). enterPlan (length table) at occupancy slave) (at-is ∙ sought table right owner (slave .address))
+    (occupancy-is ∙ ap (λ (free : ℕ). record { held = heldBy owner figures; free = free }) (free-is ∙ sought-free table right (figures .lowest))))
+    (λ wrong. enter-unseen (length table) wrong at occupancy slave ∙ sym (enter-unseen (length table) wrong stands by-figures slave))) in (
+      kept-is ∙ ap (λ (number : ℕ). enterFigures number figures owner next) (done .0)
+          ∙ kept-same refusal figures (λ given.
+          let (right, few, room) = enter-passed (length table) stands by-figures slave given in
+          ap₂ (λ (held free : ℕ). figuresWith owner held free figures) (omega (arith, few)) (next-free figures table right room free-is behind-is next-is)),
+      done .1,
+    )
 
 module _ (owner : Bool) where
   -- an entry that was seen where an address stands
@@ -92,19 +142,19 @@ module _ (owner : Bool) where
   seen address table at-is entry-is = entry-is ∙ ap (λ (k : ℕ). getD table k none) at-is
 
   pub find-meets : {at : ℕ} {entry : Slave} {r : Found} (address : ℕ) (table : List Slave)
-      → at ≡ indexSought owner address table → entry ≡ getD table at none → r ≡ foundBy (length table) at entry address
+      → at ≡ indexSought 0 false owner address table → entry ≡ getD table at none → r ≡ foundBy (length table) at entry address
       → r ≡ foundOf owner address table
   find-meets {at} {entry} address table at-is entry-is r-is =
       r-is ∙ dite (ℕ-discrete (length table) 32)
       (λ right.
-      let at-right = at-is ∙ sought owner table right address in
+      let at-right = at-is ∙ sought table right owner address in
       ap₂ (λ (at : ℕ) (entry : Slave). foundBy (length table) at entry address) at-right (seen address table at-right entry-is))
       (λ wrong.
       find-unseen (length table) wrong at entry address
       ∙ sym (find-unseen (length table) wrong (indexOf owner address table) (entryOf owner address table) address))
 
   pub change-meets : {at other : ℕ} {entry : Slave} {p : Plan} {after : List Slave} (from to : ℕ) (table : List Slave)
-      → at ≡ indexSought owner from table → entry ≡ getD table at none → other ≡ indexSought owner to table
+      → at ≡ indexSought 0 false owner from table → entry ≡ getD table at none → other ≡ indexSought 0 false owner to table
       → p ≡ changePlan (length table) at entry other from to → after ≡ set table (p .index) (p .entry)
       → (p .number ≡ changeRefusal owner from to table) × (after ≡ changed owner from to table)
   unfolding changeRefusal
@@ -112,19 +162,37 @@ module _ (owner : Bool) where
       carried-out (changeRefusal owner from to table) (indexOf owner from table) (readdressed to (entryOf owner from table)) table put
       (p-is ∙ dite (ℕ-discrete (length table) 32)
       (λ right.
-      let at-right = at-is ∙ sought owner table right from in
+      let at-right = at-is ∙ sought table right owner from in
       let entry-seen = seen from table at-right entry-is in
-      λ i. changePlan (length table) (at-right i) (entry-seen i) ((other-is ∙ sought owner table right to) i) from to)
+      λ i. changePlan (length table) (at-right i) (entry-seen i) ((other-is ∙ sought table right owner to) i) from to)
       (λ wrong.
       change-unseen (length table) wrong at entry other from to
       ∙ sym (change-unseen (length table) wrong (indexOf owner from table) (entryOf owner from table) (indexOf owner to table) from to)))
 
-  pub remove-meets : {at : ℕ} {p : Plan} {after : List Slave} (address : ℕ) (table : List Slave)
-      → at ≡ indexSought owner address table → p ≡ removePlan (length table) at address
-      → after ≡ set table (p .index) (p .entry) → (p .number ≡ removeRefusal owner address table) × (after ≡ removed owner address table)
+  pub remove-meets : {at : ℕ} {p : Plan} {kept : Kept} {after : List Slave} (figures : Figures) (address : ℕ) (table : List Slave)
+      → at ≡ indexSought 0 false owner address table → p ≡ removePlan (length table) at address
+      → kept ≡ removeFigures (p .number) figures owner at
+      → after ≡ set table (p .index) (p .entry) → (kept ≡ removeKept figures owner address table) × (after ≡ removed owner address table)
   unfolding removeRefusal
-  remove-meets {at} address table at-is p-is put =
-      carried-out (removeRefusal owner address table) (indexOf owner address table) none table put
+  remove-meets {at} figures address table at-is p-is kept-is put =
+      let refusal = removeRefusal owner address table in
+      let done = carried-out refusal (indexOf owner address table) none table put
       (p-is ∙ dite (ℕ-discrete (length table) 32)
-      (λ right. ap (λ (at : ℕ). removePlan (length table) at address) (at-is ∙ sought owner table right address))
-      (λ wrong. remove-unseen (length table) wrong at address ∙ sym (remove-unseen (length table) wrong (indexOf owner address table) address)))
+      (λ right. ap (λ (at : ℕ). removePlan (length table) at address) (at-is ∙ sought table right owner address))
+      (λ wrong. remove-unseen (length table) wrong at address ∙ sym (remove-unseen (length table) wrong (indexOf owner address table) address))) in (
+        kept-is ∙ ap (λ (number : ℕ). removeFigures number figures owner at) (done .0)
+            ∙ kept-same refusal figures (λ given.
+            let right = remove-exactly owner address table .0 given .size in
+            ap (λ (index : ℕ). figuresLess owner index figures) (at-is ∙ sought table right owner address)),
+        done .1,
+      )
+
+pub check-meets : {no yes : Occupancy} {r : Checked} (figures : Figures) (table : List Slave)
+    → no ≡ occupancyCounted false table → yes ≡ occupancyCounted true table → r ≡ checkBy (length table) (figuresCounted no yes) figures
+    → r ≡ checkOf figures table
+check-meets {no} {yes} figures table no-is yes-is r-is =
+    r-is ∙ dite (ℕ-discrete (length table) 32)
+    (λ right.
+    ap₂ (λ (no yes : Occupancy). checkBy (length table) (figuresCounted no yes) figures) (no-is ∙ counted table right false)
+    (yes-is ∙ counted table right true))
+    (λ wrong. sym (check-24 (figuresCounted no yes) figures (length table) wrong) ∙ check-24 (figuresOf table) figures (length table) wrong)
