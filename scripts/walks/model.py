@@ -24,7 +24,7 @@ class Type:
     tells: str  # the row's relation tells the machine values
     makes: str  # what a value owns is had for nothing
     lawful: str  # the row's laws
-    literal: str = ""  # of a type that has literals: one is a value of it
+    literal: str = ""  # of a number or a yes or no: a literal is a value of it
     fields: dict[str, str] = field(default_factory=dict)  # of a struct: each field's type, in the struct's order
     prefix: str = ""  # of a struct: how its lemmas' names begin
 
@@ -173,7 +173,10 @@ def signature(path: str) -> Signature:
 
 
 def contract(path: str) -> Contract:
-    """What a function ensures, with places for its parameters, the table before and after, and the result."""
+    """What a function ensures, with places for its parameters, the table before and after, and the result.
+
+    A record's braces stay, and its fields, which may be named like a parameter.
+    """
     parts, of = source(path), signature(path)
     text = parts["ensures"].replace("{", "{{").replace("}", "}}")
     text = text.replace("(now (table .entry))", "{table}").replace("now (table .exit)", "{after}")

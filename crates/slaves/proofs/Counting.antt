@@ -89,6 +89,7 @@ module _ (owner : Bool) (table : List Slave) where
       go true = same-numbers _ _ refl (zero-add (lowest isFree table))
       go false = sym counting-starts
 
+-- that is within the table
 pub search-within : (size index : ℕ) → index ≡ searchStart size 0 → index ≤ size
 unfolding choose
 search-within size index e = choose-by (λ (start : ℕ). index ≡ start → index ≤ size) (eqb size 32) (λ right is. omega (arith, is)) (λ wrong is. omega (arith, is)) e

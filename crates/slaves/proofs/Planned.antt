@@ -20,7 +20,7 @@ use Rattle.slave_plans.specs.declared.Occupancy.{Occupancy}
 use Rattle.slave_plans.specs.declared.Found.{Found}
 use Rattle.slave_plans.specs.declared.Plan.{Plan}
 use Rattle.slave_plans.proofs.Refusals.{enter-passed, remove-exactly}
-use Rattle.slave_figures.specs.Keeping.{heldBy, freeBy, occupancyBy, figuresOf, figuresWith, figuresMore, figuresLess, keptBy, enterRefusalBy, enteredBy, enterKept, removeKept, checkBy, checkOf}
+use Rattle.slave_figures.specs.Keeping.{heldBy, freeBy, occupancyBy, figuresOf, figuresWith, figuresLess, keptBy, enterRefusalBy, enteredBy, enterKept, removeKept, checkBy, checkOf}
 use Rattle.slave_figures.specs.Plan.{indexBehind, freeOr32, enterFigures, removeFigures, figuresCounted}
 use Rattle.slave_figures.specs.declared.Figures.{Figures}
 use Rattle.slave_figures.specs.declared.Kept.{Kept}
@@ -84,31 +84,31 @@ module _ (table : List Slave) (right : length table ≡ 32) where
 -- ── the figures afterwards
 
 -- where it is refused, what they would have become doesn't matter
-kept-same : (refusal : ℕ) (figures : Figures) {a b : Figures} → (refusal ≡ 0 → a ≡ b) → keptBy refusal a figures ≡ keptBy refusal b figures
-kept-same refusal figures {a} {b} same =
-    dite (ℕ-discrete refusal 0)
+kept-same : {number refusal : ℕ} (figures : Figures) {a b : Figures} → number ≡ refusal → (refusal ≡ 0 → a ≡ b)
+    → keptBy number a figures ≡ keptBy refusal b figures
+kept-same {refusal = refusal} figures {a} {b} is same =
+    ap (λ (number : ℕ). keptBy number a figures) is ∙ dite (ℕ-discrete refusal 0)
     (λ given. ap (λ (after : Figures). keptBy refusal after figures) (same given))
     (λ refused. sym (kept-refused refusal a figures refused) ∙ kept-refused refusal b figures refused)
 
+-- an entry's index, and 32 for none, stay what they are
 free-within : (index : ℕ) → index ≤ 32 → freeOr32 index ≡ index
 free-within index within =
     dite (decLt index 32)
     (λ below. sym (free-below index below))
     (λ over. sym (free-none index (omega (arith, over))) ∙ omega (arith, over, within))
 
--- ── what each function saw, planned and put, as its walk has it at the end
+-- the free entry behind that which is taken: no number here is so great that it is cut off
+next-free : {free behind next : ℕ} (figures : Figures) (table : List Slave) → length table ≡ 32 → freeBy figures table < length table
+    → free ≡ indexSought (figures .lowest) true false 0 table → behind ≡ indexBehind free → next ≡ indexSought behind true false 0 table
+    → freeOr32 next ≡ lowestFrom (suc (freeBy figures table)) isFree table
+next-free {free} {behind} figures table right room free-is behind-is next-is =
+    let taken : free ≡ freeBy figures table = free-is ∙ sought-free table right (figures .lowest) in
+    let one-behind = behind-is ∙ sym (behind-below free (omega (arith, taken, room, right))) ∙ add-one free ∙ ap suc taken in
+    let found = next-is ∙ sought-free table right behind ∙ ap (λ (start : ℕ). lowestFrom start isFree table) one-behind in
+    ap freeOr32 found ∙ free-within _ (omega (arith, right, lowest-within isFree table (suc (freeBy figures table)) room))
 
-module _ {free behind next : ℕ} (figures : Figures) (table : List Slave) where
-  -- the free entry behind that which is taken: none of the numbers comes near to where it would be cut off
-  next-free : length table ≡ 32 → freeBy figures table < length table
-      → free ≡ indexSought (figures .lowest) true false 0 table → behind ≡ indexBehind free → next ≡ indexSought behind true false 0 table
-      → freeOr32 next ≡ lowestFrom (suc (freeBy figures table)) isFree table
-  next-free right room free-is behind-is next-is =
-      let taken : free ≡ freeBy figures table = free-is ∙ sought-free table right (figures .lowest) in
-      let one-behind : behind ≡ suc (freeBy figures table) =
-      behind-is ∙ sym (behind-below free (omega (arith, taken, room, right))) ∙ add-one free ∙ ap suc taken in
-      let found = next-is ∙ sought-free table right behind ∙ ap (λ (start : ℕ). lowestFrom start isFree table) one-behind in
-      ap freeOr32 found ∙ free-within _ (omega (arith, right, lowest-within isFree table (suc (freeBy figures table)) room))
+-- ── what each function saw, planned and put, as its walk has it at the end
 
 pub enter-meets : {at free behind next : ℕ} {occupancy : Occupancy} {p : Plan} {kept : Kept} {after : List Slave}
     (figures : Figures) (slave : Slave) (table : List Slave) → at ≡ indexSought 0 false (slave .owner) (slave .address) table
@@ -117,23 +117,21 @@ pub enter-meets : {at free behind next : ℕ} {occupancy : Occupancy} {p : Plan}
     → kept ≡ enterFigures (p .number) figures (slave .owner) next
     → after ≡ set table (p .index) (p .entry) → (kept ≡ enterKept figures slave table) × (after ≡ enteredBy figures slave table)
 unfolding enterRefusalBy
-enter-meets {at} {next = next} {occupancy = occupancy} figures slave table at-is free-is behind-is next-is occupancy-is p-is kept-is put =
+enter-meets {at} {occupancy = occupancy} figures slave table at-is free-is behind-is next-is occupancy-is p-is kept-is put =
     let owner = slave .owner in
-    let refusal = enterRefusalBy figures slave table in
     let stands = indexOf owner (slave .address) table in
     let by-figures = occupancyBy owner figures table in
-    let done = carried-out refusal (freeBy figures table) slave table put
+    let done = carried-out (enterRefusalBy figures slave table) (freeBy figures table) slave table put
     (p-is ∙ dite (ℕ-discrete (length table) 32)
     (λ right.
     ap₂ (λ (at : ℕ) (occupancy : Occupancy). enterPlan (length table) at occupancy slave) (at-is ∙ sought table right owner (slave .address))
     (occupancy-is ∙ ap (λ (free : ℕ). record { held = heldBy owner figures; free = free }) (free-is ∙ sought-free table right (figures .lowest))))
-    (λ wrong. enter-unseen (length table) wrong at occupancy slave ∙ sym (enter-unseen (length table) wrong stands by-figures slave))) in (
-      kept-is ∙ ap (λ (number : ℕ). enterFigures number figures owner next) (done .0)
-          ∙ kept-same refusal figures (λ given.
-          let (right, few, room) = enter-passed (length table) stands by-figures slave given in
-          ap₂ (λ (held free : ℕ). figuresWith owner held free figures) (omega (arith, few)) (next-free figures table right room free-is behind-is next-is)),
-      done .1,
-    )
+    (λ wrong. enter-unseen (length table) wrong at occupancy slave ∙ sym (enter-unseen (length table) wrong stands by-figures slave))) in
+    let kept-right = kept-is ∙ kept-same figures (done .0) (λ given.
+    let (right, few, room) = enter-passed (length table) stands by-figures slave given in
+    let more : (heldBy owner figures + 1) % 2 ^ 8 ≡ heldBy owner figures + 1 = omega (arith, few) in
+    ap₂ (λ (held free : ℕ). figuresWith owner held free figures) more (next-free figures table right room free-is behind-is next-is)) in
+    (kept-right, done .1)
 
 module _ (owner : Bool) where
   -- an entry that was seen where an address stands
@@ -175,17 +173,13 @@ module _ (owner : Bool) where
       → after ≡ set table (p .index) (p .entry) → (kept ≡ removeKept figures owner address table) × (after ≡ removed owner address table)
   unfolding removeRefusal
   remove-meets {at} figures address table at-is p-is kept-is put =
-      let refusal = removeRefusal owner address table in
-      let done = carried-out refusal (indexOf owner address table) none table put
+      let done = carried-out (removeRefusal owner address table) (indexOf owner address table) none table put
       (p-is ∙ dite (ℕ-discrete (length table) 32)
       (λ right. ap (λ (at : ℕ). removePlan (length table) at address) (at-is ∙ sought table right owner address))
-      (λ wrong. remove-unseen (length table) wrong at address ∙ sym (remove-unseen (length table) wrong (indexOf owner address table) address))) in (
-        kept-is ∙ ap (λ (number : ℕ). removeFigures number figures owner at) (done .0)
-            ∙ kept-same refusal figures (λ given.
-            let right = remove-exactly owner address table .0 given .size in
-            ap (λ (index : ℕ). figuresLess owner index figures) (at-is ∙ sought table right owner address)),
-        done .1,
-      )
+      (λ wrong. remove-unseen (length table) wrong at address ∙ sym (remove-unseen (length table) wrong (indexOf owner address table) address))) in
+      let kept-right = kept-is ∙ kept-same figures (done .0) (λ given.
+      ap (λ (index : ℕ). figuresLess owner index figures) (at-is ∙ sought table (remove-exactly owner address table .0 given .size) owner address)) in
+      (kept-right, done .1)
 
 pub check-meets : {no yes : Occupancy} {r : Checked} (figures : Figures) (table : List Slave)
     → no ≡ occupancyCounted false table → yes ≡ occupancyCounted true table → r ≡ checkBy (length table) (figuresCounted no yes) figures

@@ -2,7 +2,7 @@
 -- an index before which, from the start on, no entry is what is sought.
 -- Assumes nothing.
 use mathlib.Core.Path.{_≡_, refl, sym, ap, subst, _∙_}
-use Prim.Native.Nat.{ℕ, suc, _+_, _-_, _<_, _≤_, _^_}
+use Prim.Native.Nat.{ℕ, suc, _+_, _-_, _<_, _^_}
 use native.Mathlib.Numerals.{add-one}
 use native.Mathlib.Omega.{arith}
 use mathlib.Core.Bool.{Bool, true, false, not}
@@ -94,9 +94,9 @@ module _ {M : Type 1} (𝓤 : URA M) (H : Heap 𝓤) (A : Atoms 𝓤) (mem : Mem
   abbrev The-is-sought : Contract 𝓤
   The-is-sought = tripleOf 𝓤 H A is-sought.signature (is-sought.spec 𝓤 H A mem run)
 
-  is-sought-says : (e : Slave) (f o : Bool) (a : ℕ) (r : Bool)
-      → ent 𝓤 (ensured 𝓤 H A is-sought.ended (is-sought.clauses 𝓤 H A mem run) tt (e, (f, (o, (a, tt)))) tt r) (fact 𝓤 (r ≡ isSought f o a e))
-  is-sought-says e f o a r = exE 𝓤 _ (λ ws. snd∗ 𝓤 (sem 𝓤 H A (lasts is-sought.ended tt (e, (f, (o, (a, tt)))) ws)) (fact 𝓤 (r ≡ isSought f o a e)))
+  is-sought-says : (e : Slave) (free o : Bool) (a : ℕ) (r : Bool)
+      → ent 𝓤 (ensured 𝓤 H A is-sought.ended (is-sought.clauses 𝓤 H A mem run) tt (e, (free, (o, (a, tt)))) tt r) (fact 𝓤 (r ≡ isSought free o a e))
+  is-sought-says e free o a r = exE 𝓤 _ (λ ws. snd∗ 𝓤 (sem 𝓤 H A (lasts is-sought.ended tt (e, (free, (o, (a, tt)))) ws)) (fact 𝓤 (r ≡ isSought free o a e)))
 
 module _ {M : Type 1} (𝓤 : URA M) (H : Heap 𝓤) (A : Atoms 𝓤) (W : Given 𝓤 H A) (mem : Memory → SProp 𝓤) (run : Routine → Fun 𝓤) (κ : Lft) (q : Share)
     (x : RefT (List Slave)) (start : ℕ) (free owner : Bool) (address : ℕ) (fits : length (x .now) < 2 ^ 64) (is-start : Is u8 start (uint-vals w8 start))
@@ -328,8 +328,10 @@ meets : {M : Type 1} (𝓤 : URA M) (H : Heap 𝓤) (A : Atoms 𝓤) → Given �
     → Triple 𝓤 (𝓣 .C #is-sought) (The-is-sought 𝓤 H A mem run)
     → Meets 𝓤 H A f.signature (WpFn 𝓤 H (𝓣 .C) (𝓣 .Λ) code.function) (f.spec 𝓤 H A mem run)
 meets 𝓤 H A W mem run 𝓣 known-search-start known-entry-at known-is-sought =
-    walk-meets 𝓤 H A f.ended stayed W
-    (goes-none-slice 𝓤 H A W 1 (0 ∷ []) tt (plain (λ _. slave-row)) yes, (goes-none 𝓤 H A W 1 (λ _. u8) yes (λ κs x f. refl), (goes-none 𝓤 H A W 1 (λ _. bool) yes (λ κs x f. refl), (goes-none 𝓤 H A W 1 (λ _. bool) yes (λ κs x f. refl), (goes-none 𝓤 H A W 1 (λ _. u16) yes (λ κs x f. refl), tt)))))
+    walk-meets 𝓤 H A f.ended stayed W (
+      goes-none-slice 𝓤 H A W 1 (0 ∷ []) tt (plain (λ _. slave-row)) yes,
+      (goes-none 𝓤 H A W 1 (λ _. u8) yes (λ κs x f. refl), (goes-none 𝓤 H A W 1 (λ _. bool) yes (λ κs x f. refl), (goes-none 𝓤 H A W 1 (λ _. bool) yes (λ κs x f. refl), (goes-none 𝓤 H A W 1 (λ _. u16) yes (λ κs x f. refl), tt)))),
+    )
     (f.clauses 𝓤 H A mem run)
     (WpFn 𝓤 H (𝓣 .C) (𝓣 .Λ) code.function) (WpFn-mono 𝓤 H (W .laws) 𝓣 code.function)
     (walks 𝓤 H A W mem run 𝓣 known-search-start known-entry-at known-is-sought)
