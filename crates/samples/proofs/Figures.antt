@@ -1,9 +1,8 @@
 -- Samples of the figures that are kept with a table of slaves, true and false ones.
 use Prim.Native.Nat.{ℕ, _*_}
-use mathlib.Core.Bool.{Bool}
 use mathlib.Core.List.{List, [], _∷_, _++_}
 use lib.ListN.{replicate, set}
-use Rattle.slave_plans.specs.History.{Operation, Enter, Find, Change, Remove}
+use Rattle.slave_plans.specs.History.{Enter, Find, Change, Remove}
 use Rattle.slave_plans.specs.declared.Slave.{Slave}
 use Rattle.slave_figures.specs.declared.Figures.{Figures}
 use Rattle.samples.proofs.Questions.{Row, countFigures, enterBy, removeBy, checkFigures, answeredBy, leftBy, ownedBy, figuresTold, tableTold, ownTold}

@@ -1,10 +1,10 @@
 -- Request No. 9 of any figures at all: nothing goes out of range, and only 16, the entry taken and the figures afterwards depend on them.
-use Prim.Native.Nat.{ℕ, suc, _+_, _-_, _<_, _^_}
+use Prim.Native.Nat.{ℕ, suc, _-_, _<_, _^_}
 use native.Mathlib.Omega.{arith}
-use mathlib.Core.Path.{_≡_, refl, ap, _∙_}
+use mathlib.Core.Path.{_≡_, refl, ap}
 use mathlib.Core.Logic.{_≢_, _⊎_, inl, inr}
 use mathlib.Core.Bool.{Bool, true, false, not}
-use mathlib.Core.List.{List, []}
+use mathlib.Core.List.{List}
 use lib.Dec.{eqb, ltb}
 use lib.ListN.{length, getD, set}
 use borrow.Author.Tests.{eqb-true, ltb-true}

@@ -1,13 +1,11 @@
 -- The check of a table brought in says exactly whether its figures are true.
-use Prim.Native.Nat.{ℕ}
-use mathlib.Core.Path.{_≡_, refl, sym, ap, _∙_}
+use mathlib.Core.Path.{_≡_, sym, ap}
 use mathlib.Core.Logic.{_≢_, _↔_}
-use mathlib.Core.Bool.{Bool, true, false, _&&_, and-eq-true-iff}
+use mathlib.Core.Bool.{true, false, and-eq-true-iff}
 use mathlib.Core.List.{List}
 use lib.Dec.{eqb}
 use lib.ListN.{length}
 use borrow.Author.Tests.{eq-eqb, eqb-true}
-use Rattle.basics.specs.Choice.{choose}
 use Rattle.slave_plans.specs.declared.Slave.{Slave}
 use Rattle.slave_figures.specs.Keeping.{figuresOf, sameFigures, checkBy, checkOf}
 use Rattle.slave_figures.specs.declared.Figures.{Figures}

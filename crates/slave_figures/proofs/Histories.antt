@@ -1,6 +1,6 @@
 -- Requests No. 8 and No. 9 over histories of calls, each with the figures that the one before gave back: from the empty table with its zeros on
 -- the figures stay true, so that No. 8's theorems hold of the calls' own answers.
-use Prim.Native.Nat.{ℕ, _≤_, _<_}
+use Prim.Native.Nat.{_≤_, _<_}
 use mathlib.Core.Path.{_≡_, refl, sym, ap, subst, _∙_}
 use mathlib.Core.Logic.{_≢_, _⊎_}
 use mathlib.Core.Bool.{Bool, true, false, Bool·beq}
@@ -16,7 +16,6 @@ use Rattle.slave_plans.proofs.Isolation as by-counting′
 use Rattle.slave_plans.proofs.Isolation.{Parted}
 use Rattle.slave_plans.proofs.Operations.{refusalOf}
 use Rattle.slave_figures.specs.History.{State, start, answerIn, stateAfter, stateFrom, answersFrom, stateOf, answersOf, ownHistory}
-use Rattle.slave_figures.specs.declared.Figures.{Figures}
 use Rattle.slave_figures.proofs.TrueFigures.{counted, True, figures-empty, answer-counted, state-counted}
 
 -- ── as by counting

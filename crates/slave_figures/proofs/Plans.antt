@@ -1,5 +1,5 @@
 -- Each answer of the functions, by the tests that led to it.
-use Prim.Native.Nat.{ℕ, suc, _+_, _%_, _^_, _≤_, _<_}
+use Prim.Native.Nat.{ℕ, _+_, _≤_, _<_}
 use native.Mathlib.Omega.{arith}
 use mathlib.Core.Path.{_≡_}
 use mathlib.Core.Logic.{_≢_}
@@ -10,8 +10,6 @@ use Rattle.basics.specs.Choice.{choose}
 use Rattle.slave_figures.specs.Keeping.{heldBy, figuresWith, keptBy, sameFigures, checkBy}
 use Rattle.slave_figures.specs.Plan.{indexBehind, freeOr32}
 use Rattle.slave_figures.specs.declared.Figures.{Figures}
-use Rattle.slave_figures.specs.declared.Kept.{Kept}
-use Rattle.slave_figures.specs.declared.Checked.{Checked}
 
 -- ── an owner's number
 

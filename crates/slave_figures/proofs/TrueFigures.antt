@@ -1,27 +1,27 @@
 -- Request No. 9 of true figures: every operation keeps them as counting gives them, and answers and does what No. 8 says by counting.
-use Prim.Native.Nat.{ℕ, zero, suc, _+_, _-_, _<_}
+use Prim.Native.Nat.{ℕ, suc, _+_, _-_, _<_}
 use native.Mathlib.Omega.{arith}
 use native.Mathlib.Decide.{ℕ-discrete}
-use mathlib.Core.Path.{_≡_, refl, sym, ap, ap₂, subst, _∙_}
+use mathlib.Core.Path.{_≡_, refl, sym, ap, subst, _∙_}
 use mathlib.Core.Logic.{_≢_, _↔_, dite}
-use mathlib.Core.Bool.{Bool, true, false, not, Bool·beq, true≢false}
+use mathlib.Core.Bool.{Bool, true, false, not, true≢false}
 use mathlib.Core.List.{List}
-use lib.Dec.{eqb, ltb}
+use lib.Dec.{eqb}
 use lib.ListN.{length, getD, set}
 use Rattle.basics.specs.Choice.{choose, first}
 use Rattle.basics.proofs.Table.{when-none, when-refused}
-use Rattle.slave_plans.specs.Table.{none, empty, isFree, belongsTo, lowest, lowestFrom, count, indexOf, occupancyOf}
-use Rattle.slave_plans.specs.Answer.{enterLines, tableWith, enterRefusal, entered, changeRefusal, entryOf, readdressed, removeRefusal}
+use Rattle.slave_plans.specs.Table.{none, isFree, belongsTo, lowest, lowestFrom, count, indexOf, occupancyOf}
+use Rattle.slave_plans.specs.Answer.{enterLines, tableWith, enterRefusal, changeRefusal, entryOf, readdressed, removeRefusal}
 use Rattle.slave_plans.specs.History.{Operation, Enter, Find, Change, Remove, numberAlone, answerOf, tableAfter}
 use Rattle.slave_plans.specs.declared.Slave.{Slave}
 use Rattle.slave_plans.specs.declared.Occupancy.{Occupancy}
 use Rattle.slave_plans.proofs.Addresses.{slave-nonzero}
-use Rattle.slave_plans.proofs.Entries.{by-test, false-unless, free-exactly, belongs-exactly}
+use Rattle.slave_plans.proofs.Entries.{false-unless, free-exactly, belongs-exactly}
 use Rattle.slave_plans.proofs.Indices.{Nowhere, lowest-here, lowest-none, lowest-nowhere, set-other, from-lowest, lowest-behind, lowest-lower}
 use Rattle.slave_plans.proofs.Counts.{one, count-set}
 use Rattle.slave_plans.proofs.Refusals.{enter-exactly, change-exactly, remove-exactly}
 use Rattle.slave_plans.proofs.Operations.{refusalOf, indexNamed, entryPut, named-inside, either, given, refused-stay, changed-named, removed-named}
-use Rattle.slave_figures.specs.Keeping.{figuresOf, heldBy, freeBy, occupancyBy, figuresWith, figuresMore, figuresLess, enterRefusalBy, enteredBy, enterKept, removeKept}
+use Rattle.slave_figures.specs.Keeping.{figuresOf, heldBy, freeBy, occupancyBy, figuresWith, figuresMore, figuresLess, enterRefusalBy}
 use Rattle.slave_figures.specs.History.{State, start, answerIn, stateAfter}
 use Rattle.slave_figures.specs.declared.Figures.{Figures}
 

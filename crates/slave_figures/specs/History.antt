@@ -1,5 +1,4 @@
 -- The operations of both owners on a table and its figures, each call with the figures that the one before gave back (requests No. 8 and No. 9).
-use Prim.Native.Nat.{ℕ}
 use mathlib.Core.Bool.{Bool, Bool·beq}
 use mathlib.Core.List.{List, [], _∷_, map}
 use Rattle.basics.specs.Choice.{choose}

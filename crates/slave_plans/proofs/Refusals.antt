@@ -123,18 +123,26 @@ module _ (o : Bool) (a : ℕ) (t : List Slave) where
 
 -- ── entering
 
--- by any occupancy: the table's length, a number below 24, and a free entry in the table
-pub enter-room : (size at : ℕ) (occupancy : Occupancy) (s : Slave) → first (enterLines size at occupancy s) ≡ 0
-    → (size ≡ 32) × (occupancy .held < 24) × (occupancy .free < size)
-unfolding isFull choose
-enter-room size at occupancy s e =
+-- where it isn't refused no line applies, by any occupancy
+enter-lines : (size at : ℕ) (occupancy : Occupancy) (s : Slave) → first (enterLines size at occupancy s) ≡ 0
+    → (size ≡ 32) × (notSlave (s .address) ≡ false) × (tooWide (s .product) (s .device) ≡ false) × (size ≤ at) × (isFull size occupancy ≡ false)
+unfolding choose
+enter-lines size at occupancy s e =
     let right = line-passed (not (eqb size 32)) 24 _ (omega arith) e in
     let address = line-passed (notSlave (s .address)) 14 _ (omega arith) (right .1) in
     let narrow = line-passed (tooWide (s .product) (s .device)) 18 _ (omega arith) (address .1) in
     let fresh = line-passed (ltb at size) 15 _ (omega arith) (narrow .1) in
     let roomy = line-passed (isFull size occupancy) 16 0 (omega arith) (fresh .1) in
-    let both = neither (leb 24 (occupancy .held)) (leb size (occupancy .free)) (roomy .0) in
-    (length-exactly size .0 (right .0), leb-false _ _ (both .0), leb-false _ _ (both .1))
+    (length-exactly size .0 (right .0), address .0, narrow .0, ltb-false _ _ (fresh .0), roomy .0)
+
+-- so the table has 32 entries, the owner holds few enough, and one is free
+pub enter-room : (size at : ℕ) (occupancy : Occupancy) (s : Slave) → first (enterLines size at occupancy s) ≡ 0
+    → (size ≡ 32) × (occupancy .held < 24) × (occupancy .free < size)
+unfolding isFull
+enter-room size at occupancy s e =
+    let (right, address, narrow, fresh, roomy) = enter-lines size at occupancy s e in
+    let both = neither (leb 24 (occupancy .held)) _ roomy in
+    (right, leb-false _ _ (both .0), leb-false _ _ (both .1))
 
 pub record MayEnter (s : Slave) (t : List Slave) : Type 0 where
   pub size : length t ≡ 32
@@ -146,22 +154,18 @@ pub record MayEnter (s : Slave) (t : List Slave) : Type 0 where
   pub free : Somewhere isFree t
 
 pub enter-exactly : (s : Slave) (t : List Slave) → (enterRefusal s t ≡ 0) ↔ MayEnter s t
-unfolding enterRefusal choose
+unfolding enterRefusal
 enter-exactly s t = (
   λ e.
-      let size = line-passed (not (eqb (length t) 32)) 24 _ (omega arith) e in
-      let address = line-passed (notSlave (s .address)) 14 _ (omega arith) (size .1) in
-      let narrow = line-passed (tooWide (s .product) (s .device)) 18 _ (omega arith) (address .1) in
-      let fresh = line-passed (ltb (indexOf (s .owner) (s .address) t) (length t)) 15 _ (omega arith) (narrow .1) in
-      let roomy = line-passed (isFull (length t) (occupancyOf (s .owner) t)) 16 0 (omega arith) (fresh .1) in
-      let bounds = wide-exactly (s .product) (s .device) .0 (narrow .0) in
-      let room = roomy-exactly (s .owner) t .0 (roomy .0) in
+      let (size, address, narrow, fresh, roomy) = enter-lines (length t) (indexOf (s .owner) (s .address) t) (occupancyOf (s .owner) t) s e in
+      let bounds = wide-exactly (s .product) (s .device) .0 narrow in
+      let room = roomy-exactly (s .owner) t .0 roomy in
       record {
-        size = length-exactly (length t) .0 (size .0);
-        address = slave-exactly (s .address) .0 (address .0);
+        size = size;
+        address = slave-exactly (s .address) .0 address;
         product = bounds .0;
         device = bounds .1;
-        fresh = lowest-nowhere (hasAddress (s .owner) (s .address)) t (ltb-false _ _ (fresh .0));
+        fresh = lowest-nowhere (hasAddress (s .owner) (s .address)) t fresh;
         few = room .0;
         free = room .1;
       },
@@ -179,19 +183,6 @@ enter-exactly s t = (
       (roomy-exactly (s .owner) t .1 (m .few, m .free))
       ),
 )
-
--- where it isn't refused, by any occupancy: the table has 32 entries, the owner holds few enough, and one is free
-pub enter-passed : (size at : ℕ) (occupancy : Occupancy) (s : Slave) → first (enterLines size at occupancy s) ≡ 0
-    → (size ≡ 32) × (occupancy .held < mostHeld) × (occupancy .free < size)
-unfolding isFull choose
-enter-passed size at occupancy s e =
-    let right = line-passed (not (eqb size 32)) 24 _ (omega arith) e in
-    let address = line-passed (notSlave (s .address)) 14 _ (omega arith) (right .1) in
-    let narrow = line-passed (tooWide (s .product) (s .device)) 18 _ (omega arith) (address .1) in
-    let fresh = line-passed (ltb at size) 15 _ (omega arith) (narrow .1) in
-    let roomy = line-passed (isFull size occupancy) 16 0 (omega arith) (fresh .1) in
-    let room = neither (leb mostHeld (occupancy .held)) _ (roomy .0) in
-    (length-exactly size .0 (right .0), leb-false _ _ (room .0), leb-false _ _ (room .1))
 
 -- and which refusal comes where it isn't
 module _ (s : Slave) (t : List Slave) where

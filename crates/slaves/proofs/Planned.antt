@@ -19,7 +19,8 @@ use Rattle.slave_plans.specs.declared.Slave.{Slave}
 use Rattle.slave_plans.specs.declared.Occupancy.{Occupancy}
 use Rattle.slave_plans.specs.declared.Found.{Found}
 use Rattle.slave_plans.specs.declared.Plan.{Plan}
-use Rattle.slave_plans.proofs.Refusals.{enter-passed, remove-exactly}
+use Rattle.slave_plans.proofs.Indices.{from-most}
+use Rattle.slave_plans.proofs.Refusals.{enter-room, remove-exactly}
 use Rattle.slave_figures.specs.Keeping.{heldBy, freeBy, occupancyBy, figuresOf, figuresWith, figuresLess, keptBy, enterRefusalBy, enteredBy, enterKept, removeKept, checkBy, checkOf}
 use Rattle.slave_figures.specs.Plan.{indexBehind, freeOr32, enterFigures, removeFigures, figuresCounted}
 use Rattle.slave_figures.specs.declared.Figures.{Figures}
@@ -27,7 +28,6 @@ use Rattle.slave_figures.specs.declared.Kept.{Kept}
 use Rattle.slave_figures.specs.declared.Checked.{Checked}
 use Rattle.slave_figures.proofs.Plans.{behind-below, free-below, free-none, kept-refused, check-24}
 use Rattle.slaves.proofs.Structs.{set-past}
-use Rattle.slaves.proofs.Seeking.{lowest-within}
 
 -- a plan by a refusal's number or 0, carried out: a refused one puts its entry past the end, where nothing changes
 module _ {p : Plan} {after : List Slave} (refusal index : ℕ) (entry : Slave) (table : List Slave) (put : after ≡ set table (p .index) (p .entry)) where
@@ -106,7 +106,7 @@ next-free {free} {behind} figures table right room free-is behind-is next-is =
     let taken : free ≡ freeBy figures table = free-is ∙ sought-free table right (figures .lowest) in
     let one-behind = behind-is ∙ sym (behind-below free (omega (arith, taken, room, right))) ∙ add-one free ∙ ap suc taken in
     let found = next-is ∙ sought-free table right behind ∙ ap (λ (start : ℕ). lowestFrom start isFree table) one-behind in
-    ap freeOr32 found ∙ free-within _ (omega (arith, right, lowest-within isFree table (suc (freeBy figures table)) room))
+    ap freeOr32 found ∙ free-within _ (omega (arith, right, from-most isFree (suc (freeBy figures table)) table room))
 
 -- ── what each function saw, planned and put, as its walk has it at the end
 
@@ -128,7 +128,7 @@ enter-meets {at} {occupancy = occupancy} figures slave table at-is free-is behin
     (occupancy-is ∙ ap (λ (free : ℕ). record { held = heldBy owner figures; free = free }) (free-is ∙ sought-free table right (figures .lowest))))
     (λ wrong. enter-unseen (length table) wrong at occupancy slave ∙ sym (enter-unseen (length table) wrong stands by-figures slave))) in
     let kept-right = kept-is ∙ kept-same figures (done .0) (λ given.
-    let (right, few, room) = enter-passed (length table) stands by-figures slave given in
+    let (right, few, room) = enter-room (length table) stands by-figures slave given in
     let more : (heldBy owner figures + 1) % 2 ^ 8 ≡ heldBy owner figures + 1 = omega (arith, few) in
     ap₂ (λ (held free : ℕ). figuresWith owner held free figures) more (next-free figures table right room free-is behind-is next-is)) in
     (kept-right, done .1)

@@ -3,18 +3,15 @@ use Prim.Native.Nat.{ℕ, suc, _<_, _≤_}
 use native.Mathlib.Omega.{arith}
 use native.Mathlib.Nat.{le-refl}
 use mathlib.Core.Path.{_≡_, refl, ap, _∙_}
-use native.Mathlib.Decide.{decLt}
-use mathlib.Core.Logic.{dite}
 use mathlib.Core.Bool.{Bool, true, false}
 use mathlib.Core.List.{List}
 use lib.Dec.{eqb}
-use lib.ListN.{length, getD, drop, length-drop, drop-of-length-le}
+use lib.ListN.{length, getD, drop, drop-of-length-le}
 use lib.Seq.{drop-cons}
 use Rattle.basics.specs.Choice.{choose}
 use Rattle.slave_plans.specs.Table.{none, lowest, lowestFrom}
 use Rattle.slave_plans.specs.Plan.{searchStart, isSought, indexSought}
 use Rattle.slave_plans.specs.declared.Slave.{Slave}
-use Rattle.slave_plans.proofs.Indices.{lowest-none, lowest-nowhere}
 
 module _ (test : Slave → Bool) (table : List Slave) (index : ℕ) where
   abbrev later : ℕ
@@ -35,14 +32,6 @@ module _ (test : Slave → Bool) (table : List Slave) (index : ℕ) where
   pub nowhere-left : length table ≤ index → lowest test (drop index table) ≡ 0
   unfolding lowest
   nowhere-left l = ap (lowest test) (drop-of-length-le table l)
-
--- a search that begins at or before the end doesn't go past it
-pub lowest-within : (test : Slave → Bool) (table : List Slave) (start : ℕ) → start ≤ length table → lowestFrom start test table ≤ length table
-lowest-within test table start within =
-    let rest = drop start table in
-    dite (decLt (lowest test rest) (length rest))
-    (λ inside. omega (arith, inside, within, length-drop start table))
-    (λ past. omega (arith, within, length-drop start table, lowest-none test rest (lowest-nowhere test rest (omega (arith, past)))))
 
 -- where the search begins, nothing was passed, or the table has a wrong length
 pub search-starts : (start : ℕ) (free owner : Bool) (address : ℕ) (table : List Slave) (index : ℕ) → index ≡ searchStart (length table) start

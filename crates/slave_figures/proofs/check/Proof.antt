@@ -4,7 +4,6 @@ use mathlib.Core.Path.{_∙_, ap}
 use mathlib.Core.Bool.{Bool}
 use Rattle.slave_figures.proofs.Plans.{check-24, check-0}
 use Rattle.slave_figures.specs.Plan.{figuresCounted}
-use Rattle.slave_figures.specs.declared.Checked.{Checked}
 use borrow.Author.Needs.{needs}
 use Rattle.slave_figures.proofs.check.Statement.{statement}
 use Rattle.slave_figures.proofs.check.Tie as tie

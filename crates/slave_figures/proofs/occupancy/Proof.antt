@@ -1,7 +1,6 @@
 -- `occupancy` meets its contract: the owner's number. Assumes nothing.
 use Prim.Native.Nat.{ℕ}
 use mathlib.Core.Path.{ap}
-use Rattle.slave_plans.specs.declared.Occupancy.{Occupancy}
 use borrow.Author.Needs.{needs}
 use Rattle.slave_figures.proofs.occupancy.Statement.{statement}
 use Rattle.slave_figures.proofs.occupancy.Tie as tie
