@@ -47,9 +47,12 @@ unfolding heldBy choose
 held-counted true t = refl
 held-counted false t = refl
 
+free-counted : (t : List Slave) → freeBy (figuresOf t) t ≡ lowest isFree t
+free-counted t = omega (arith, from-lowest isFree t)
+
 -- what entering goes by is what No. 8 counts
 occupancy-counted : (o : Bool) (t : List Slave) → occupancyBy o (figuresOf t) t ≡ occupancyOf o t
-occupancy-counted o t = λ i. record { held = held-counted o t i; free = from-lowest isFree t i }
+occupancy-counted o t = λ i. record { held = held-counted o t i; free = free-counted t i }
 
 refusal-counted : (s : Slave) (t : List Slave) → enterRefusalBy (figuresOf t) s t ≡ enterRefusal s t
 unfolding enterRefusalBy enterRefusal
@@ -113,7 +116,7 @@ entered-true s t accepted =
     figures-with o (figuresOf t) _ _ (set t at s)
     (omega (arith, held-counted o t, held-after t at s inside o false true (free-nobody o _ was) (own s some)))
     (held-counted (not o) t ∙ omega (arith, held-after t at s inside (not o) false false (free-nobody (not o) _ was) (other o s refl)))
-    (ap (λ (n : ℕ). lowestFrom (suc n) isFree t) (from-lowest isFree t) ∙ sym (lowest-behind isFree t s (taken s some) inside))
+    (ap (λ (n : ℕ). lowestFrom (suc n) isFree t) (free-counted t) ∙ sym (lowest-behind isFree t s (taken s some) inside))
 
 changed-true : (o : Bool) (from to : ℕ) (t : List Slave) → changeRefusal o from to t ≡ 0
     → figuresOf t ≡ figuresOf (set t (indexOf o from t) (readdressed to (entryOf o from t)))
@@ -163,7 +166,7 @@ by-refusal op t n f is true-then =
 
 pub state-counted : (op : Operation) (t : List Slave) → stateAfter op (counted t) ≡ counted (tableAfter op t)
 state-counted (Enter s) t = λ i. record {
-  table = tableWith (refusal-counted s t i) (from-lowest isFree t i) s t;
+  table = tableWith (refusal-counted s t i) (free-counted t i) s t;
   figures = by-refusal (Enter s) t (enterRefusalBy (figuresOf t) s t) _ (refusal-counted s t) (entered-true s t) i;
 }
 state-counted (Find o a) t = refl
