@@ -1,23 +1,30 @@
 -- Request No. 9 of any figures at all: nothing goes out of range, and only 16, the entry taken and the figures afterwards depend on them.
 use Prim.Native.Nat.{ℕ, suc, _-_, _<_, _^_}
 use native.Mathlib.Omega.{arith}
-use mathlib.Core.Path.{_≡_, refl, ap}
-use mathlib.Core.Logic.{_≢_, _⊎_, inl, inr}
-use mathlib.Core.Bool.{Bool, true, false, not}
+use native.Mathlib.Decide.{ℕ-discrete}
+use mathlib.Core.Path.{_≡_, refl, sym, ap, subst, _∙_}
+use mathlib.Core.Logic.{_≢_, _⊎_, inl, inr, dite}
+use mathlib.Core.Bool.{Bool, true, false, not, Bool-discrete}
 use mathlib.Core.List.{List}
 use lib.Dec.{eqb, ltb}
-use lib.ListN.{length, getD, set}
+use lib.ListN.{length, getD, set, length-set}
 use borrow.Author.Tests.{eqb-true, ltb-true}
 use Rattle.basics.specs.Choice.{choose}
 use Rattle.basics.proofs.Choice.{choose-by}
 use Rattle.basics.proofs.Table.{when-none, when-refused}
 use Rattle.slave_id.specs.SlaveId.{tooWide}
-use Rattle.slave_plans.specs.Table.{none, isFree, indexOf}
-use Rattle.slave_plans.specs.Answer.{notSlave, isFull, changeRefusal, removeRefusal}
+use Rattle.slave_plans.specs.Table.{none, isFree, hasAddress, indexOf}
+use Rattle.slave_plans.specs.Answer.{notSlave, isFull, foundOf, changeRefusal, removeRefusal}
 use Rattle.slave_plans.specs.History.{Operation, Enter, Find, Change, Remove, numberAlone}
 use Rattle.slave_plans.specs.declared.Slave.{Slave}
-use Rattle.slave_plans.proofs.Indices.{from-here, from-most}
-use Rattle.slave_plans.proofs.Refusals.{enter-room}
+use Rattle.slave_plans.specs.declared.Occupancy.{Occupancy}
+use Rattle.slave_plans.specs.declared.Found.{Found}
+use Rattle.slave_plans.proofs.Addresses.{slave-exactly, slave-nonzero}
+use Rattle.slave_plans.proofs.Entries.{false-unless, free-exactly, address-exactly, other-address}
+use Rattle.slave_plans.proofs.Indices.{lowest-nowhere, from-here, from-most}
+use Rattle.slave_plans.proofs.Refusals.{enter-lines, enter-room}
+use Rattle.slave_plans.proofs.Finding.{identifiers}
+use Rattle.slave_plans.proofs.Operations.{put-found, zero-found, put-unfound}
 use Rattle.slave_plans.proofs.Isolation.{Parted, SameOrParted, last-parts}
 use Rattle.slave_figures.specs.Keeping.{figuresOf, heldBy, freeBy, occupancyBy, figuresWith, enterRefusalBy}
 use Rattle.slave_figures.specs.History.{State, answerIn, stateAfter}
@@ -84,26 +91,79 @@ module _ (slave : Slave) (s : State) where
   abbrev t : List Slave
   t = s .table
 
-  room : answerIn (Enter slave) s .number ≡ 0 → (length t ≡ 32) × (heldBy (slave .owner) (s .figures) < 24) × (freeBy (s .figures) t < length t)
-  unfolding enterRefusalBy
-  room accepted = enter-room (length t) (indexOf (slave .owner) (slave .address) t) (occupancyBy (slave .owner) (s .figures) t) slave accepted
-
   -- "entering takes only a free entry", one in the table
   pub record Takes (at : ℕ) : Type 0 where
     pub inside : at < length t
     pub free : isFree (getD t at none) ≡ true
     pub put : stateAfter (Enter slave) s .table ≡ set t at slave
 
-  pub free-only : answerIn (Enter slave) s .number ≡ 0 → (at : ℕ) × Takes at
-  free-only accepted =
-      let (size, few, inside) = room accepted in (
-        freeBy (s .figures) t,
-        record {
-          inside = inside;
-          free = from-here isFree (s .figures .lowest) t inside;
-          put = when-none (enterRefusalBy (s .figures) slave t) _ t accepted;
-        },
-      )
+  module _ (accepted : answerIn (Enter slave) s .number ≡ 0) where
+    abbrev occupancy : Occupancy
+    occupancy = occupancyBy (slave .owner) (s .figures) t
+
+    abbrev stands : ℕ
+    stands = indexOf (slave .owner) (slave .address) t
+
+    pub room : (length t ≡ 32) × (occupancy .held < 24) × (occupancy .free < length t)
+    unfolding enterRefusalBy
+    room = enter-room (length t) stands occupancy slave accepted
+
+    pub free-only : (at : ℕ) × Takes at
+    free-only =
+        let (size, few, inside) = room in (
+          freeBy (s .figures) t,
+          record {
+            inside = inside;
+            free = from-here isFree (s .figures .lowest) t inside;
+            put = when-none (enterRefusalBy (s .figures) slave t) _ t accepted;
+          },
+        )
+
+    -- what is found afterwards, whichever it is: the slave, and of every other address what was found before
+    pub taken-found : foundOf (slave .owner) (slave .address) (stateAfter (Enter slave) s .table) ≡ identifiers slave
+    unfolding enterRefusalBy
+    taken-found =
+        let (at, takes) = free-only in
+        let (size, address, narrow, fresh, roomy) = enter-lines (length t) stands occupancy slave accepted in
+        let nowhere = lowest-nowhere (hasAddress (slave .owner) (slave .address)) t fresh in
+        ap (foundOf (slave .owner) (slave .address)) (takes .put)
+        ∙ put-found t at slave size (takes .inside) (slave-nonzero (slave .address) (slave-exactly (slave .address) .0 address))
+        (λ k below. nowhere k (omega (arith, below, takes .inside)))
+
+    pub taken-others : (o : Bool) (a : ℕ) → ((o ≡ slave .owner) × (a ≡ slave .address) → ⊥) → foundOf o a (stateAfter (Enter slave) s .table) ≡ foundOf o a t
+    taken-others o a other =
+        let (at, takes) = free-only in
+        ap (foundOf o a) (takes .put) ∙ dite (ℕ-discrete a 0)
+        (λ zero. subst (λ (n : ℕ). foundOf o n (set t at slave) ≡ foundOf o n t) (sym zero) (zero-found o (set t at slave) t (length-set t at slave)))
+        (λ some. put-unfound t at slave o a (takes .inside) (other-address o a _ (λ is. some (sym is ∙ free-exactly _ .0 (takes .free))))
+        (false-unless _ (λ y. let named = address-exactly slave o a .0 y in other (sym (named .0), sym (named .1)))))
+
+-- so where it is answered as by true figures, all that is found afterwards is as by true ones
+pub any-found : (op : Operation) (s : State) → answerIn op s ≡ answerIn op (counted (s .table)) → (o : Bool) (a : ℕ)
+    → foundOf o a (stateAfter op s .table) ≡ foundOf o a (stateAfter op (counted (s .table)) .table)
+any-found (Enter slave) s same o a =
+    let s′ = counted (s .table) in
+    let number = ap (λ (f : Found). f .number) same in
+    dite (ℕ-discrete (answerIn (Enter slave) s .number) 0)
+    (λ e. dite (Bool-discrete o (slave .owner))
+    (λ own. dite (ℕ-discrete a (slave .address))
+    (λ at.
+    subst (λ (x : Bool). foundOf x a (stateAfter (Enter slave) s .table) ≡ foundOf x a (stateAfter (Enter slave) s′ .table)) (sym own)
+    (subst (λ (n : ℕ). foundOf (slave .owner) n (stateAfter (Enter slave) s .table) ≡ foundOf (slave .owner) n (stateAfter (Enter slave) s′ .table)) (sym at)
+    (taken-found slave s e ∙ sym (taken-found slave s′ (sym number ∙ e)))))
+    (λ elsewhere. unconcerned e (sym number ∙ e) (λ (own, at). elsewhere at)))
+    (λ neighbour. unconcerned e (sym number ∙ e) (λ (own, at). neighbour own)))
+    (λ r.
+    ap (λ (x : State). foundOf o a (x .table)) (refusal-nothing (Enter slave) s r)
+    ∙ sym (ap (λ (x : State). foundOf o a (x .table)) (refusal-nothing (Enter slave) s′ (λ z. r (number ∙ z)))))
+  where
+    unconcerned : answerIn (Enter slave) s .number ≡ 0 → answerIn (Enter slave) (counted (s .table)) .number ≡ 0
+        → ((o ≡ slave .owner) × (a ≡ slave .address) → ⊥)
+        → foundOf o a (stateAfter (Enter slave) s .table) ≡ foundOf o a (stateAfter (Enter slave) (counted (s .table)) .table)
+    unconcerned e e′ other = taken-others slave s e o a other ∙ sym (taken-others slave (counted (s .table)) e′ o a other)
+any-found (Find o′ a′) s same o a = refl
+any-found (Change o′ from to) s same o a = refl
+any-found (Remove o′ a′) s same o a = refl
 
 -- ── "nothing goes out of range": figures of eight bits stay so
 

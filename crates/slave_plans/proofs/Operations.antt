@@ -122,7 +122,7 @@ changed-named o from to t accepted = owns o from t (named-inside (Change o from 
 -- ── what is found afterwards
 
 -- an entry that is put where no lower one is its owner's with its address is found
-put-found : (t : List Slave) (i : ℕ) (e : Slave) → length t ≡ 32 → i < length t → e .address ≢ 0
+pub put-found : (t : List Slave) (i : ℕ) (e : Slave) → length t ≡ 32 → i < length t → e .address ≢ 0
     → ((k : ℕ) → k < i → hasAddress (e .owner) (e .address) (getD t k none) ≡ false) → foundOf (e .owner) (e .address) (set t i e) ≡ identifiers e
 put-found t i e size inside some lower =
     let test = hasAddress (e .owner) (e .address) in
@@ -136,6 +136,18 @@ put-found t i e size inside some lower =
     find-lowest (e .owner) (e .address) (set t i e)
     (find-exactly (e .owner) (e .address) (set t i e) .1 (record { size = length-set t i e ∙ size; some = some; there = (i, lowest-put) })) i lowest-put
     ∙ ap identifiers here
+
+-- the address 0 is found in no table
+pub zero-found : (o : Bool) (t t′ : List Slave) → length t ≡ length t′ → foundOf o 0 t ≡ foundOf o 0 t′
+zero-found o t t′ same = find-zero o t ∙ ap (λ (n : ℕ). numberAlone (choose (eqb n 32) 17 24)) same ∙ sym (find-zero o t′)
+
+-- an address that neither the entry that goes nor the one that is put has is found as before
+pub put-unfound : (t : List Slave) (i : ℕ) (e : Slave) (o : Bool) (a : ℕ) → i < length t → hasAddress o a (getD t i none) ≡ false → hasAddress o a e ≡ false
+    → foundOf o a (set t i e) ≡ foundOf o a t
+put-unfound t i e o a inside old new =
+    let elsewhere : indexOf o a t ≢ i =
+    λ at. true≢false (sym (lowest-here (hasAddress o a) t (subst (λ (n : ℕ). n < length t) (sym at) inside) .here) ∙ ap (λ (n : ℕ). hasAddress o a (getD t n none)) at ∙ old) in
+    find-same o a t (set t i e) (length-set t i e) (set-other (hasAddress o a) t i e old new) (getD-set-other t i (indexOf o a t) e none elsewhere)
 
 -- a slave that was entered is found, with its identifiers
 pub find-entered : (s : Slave) (t : List Slave) → enterRefusal s t ≡ 0 → foundOf (s .owner) (s .address) (entered s t) ≡ identifiers s
@@ -329,17 +341,11 @@ unconcerned (Remove o′ b) t o a some other accepted = (differs o a (entryOf o�
 pub others-found : (op : Operation) (t : List Slave) (o : Bool) (a : ℕ) → (Concerns op o a → ⊥) → foundOf o a (tableAfter op t) ≡ foundOf o a t
 others-found op t o a other =
     dite (ℕ-discrete a 0)
-    (λ zero-is. subst (λ (n : ℕ). foundOf o n (tableAfter op t) ≡ foundOf o n t) (sym zero-is)
-    (find-zero o (tableAfter op t) ∙ ap (λ (n : ℕ). numberAlone (choose (eqb n 32) 17 24)) (length-stays op t) ∙ sym (find-zero o t)))
-    (λ some. either op t (λ (l : List Slave). foundOf o a l ≡ foundOf o a t) refl (λ accepted. put-same accepted (unconcerned op t o a some other accepted)))
-  where
-    put-same : refusalOf op t ≡ 0 → (hasAddress o a (getD t (indexNamed op t) none) ≡ false) × (hasAddress o a (entryPut op t) ≡ false)
-        → foundOf o a (set t (indexNamed op t) (entryPut op t)) ≡ foundOf o a t
-    put-same accepted (old, new) =
-        let j = indexNamed op t in
-        let elsewhere : indexOf o a t ≢ j =
-        λ at. true≢false (sym (lowest-here (hasAddress o a) t (subst (λ (n : ℕ). n < length t) (sym at) (named-inside op t accepted)) .here) ∙ ap (λ (n : ℕ). hasAddress o a (getD t n none)) at ∙ old) in
-        find-same o a t (set t j (entryPut op t)) (length-set t j (entryPut op t)) (set-other (hasAddress o a) t j (entryPut op t) old new) (getD-set-other t j (indexOf o a t) (entryPut op t) none elsewhere)
+    (λ zero-is. subst (λ (n : ℕ). foundOf o n (tableAfter op t) ≡ foundOf o n t) (sym zero-is) (zero-found o (tableAfter op t) t (length-stays op t)))
+    (λ some. either op t (λ (l : List Slave). foundOf o a l ≡ foundOf o a t) refl
+    (λ accepted.
+    let (old, new) = unconcerned op t o a some other accepted in
+    put-unfound t (indexNamed op t) (entryPut op t) o a (named-inside op t accepted) old new))
 
 -- whatever the other owner does
 pub neighbour-found : (op : Operation) (t : List Slave) (o : Bool) (a : ℕ) → ownerOf op ≢ o → foundOf o a (tableAfter op t) ≡ foundOf o a t

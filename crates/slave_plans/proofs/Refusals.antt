@@ -124,7 +124,7 @@ module _ (o : Bool) (a : ℕ) (t : List Slave) where
 -- ── entering
 
 -- where it isn't refused no line applies, by any occupancy
-enter-lines : (size at : ℕ) (occupancy : Occupancy) (s : Slave) → first (enterLines size at occupancy s) ≡ 0
+pub enter-lines : (size at : ℕ) (occupancy : Occupancy) (s : Slave) → first (enterLines size at occupancy s) ≡ 0
     → (size ≡ 32) × (notSlave (s .address) ≡ false) × (tooWide (s .product) (s .device) ≡ false) × (size ≤ at) × (isFull size occupancy ≡ false)
 unfolding choose
 enter-lines size at occupancy s e =
