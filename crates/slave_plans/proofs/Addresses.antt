@@ -1,14 +1,13 @@
--- Laws of a slave's address: refusal 14 field by field, and a sample over all addresses.
-use Prim.Native.Nat.{ℕ, zero, suc, _+_, _*_, _/_, _%_, _<_, _^_}
+-- Laws of a slave's address: refusal 14 field by field.
+use Prim.Native.Nat.{ℕ, _+_, _*_, _/_, _%_, _<_, _^_}
 use native.Mathlib.Omega.{arith}
 use native.Mathlib.Nat.{mod-eq-of-lt, mul-add-mod-self-right}
 use lib.Arith.{digits-mod}
-use mathlib.Core.Path.{_≡_, refl, sym, ap, _∙_}
+use mathlib.Core.Path.{_≡_, sym, ap, _∙_}
 use mathlib.Core.Logic.{_≢_, _↔_}
-use mathlib.Core.Bool.{Bool, true, false, not, _&&_, _||_, not-eq-not}
-use lib.Dec.{eqb, ltb}
+use mathlib.Core.Bool.{true, false, not, _||_, not-eq-not}
+use lib.Dec.{eqb}
 use borrow.Author.Tests.{eq-eqb, ne-eqb, eqb-true, eqb-false, not-false}
-use Rattle.basics.specs.Choice.{choose}
 use Rattle.basics.specs.Words.{hasBit}
 use Rattle.basics.proofs.Choice.{neither}
 use Rattle.slave_plans.specs.Answer.{notSlave}
@@ -65,19 +64,3 @@ slave-fields low number class top l n c t =
       λ (class-2, clear-7, clear-15, some).
           record { class = class-is ∙ class-2; bit-7 = λ e. clear-7 (sym bit-7-is ∙ e); bit-15 = λ e. clear-15 (sym bit-15-is ∙ e); number = λ e. some (sym number-is ∙ e) },
     )
-
--- ── the sample
-
--- in hex digits: the first is 2, the third is below 8, and the second and third aren't both 0
-abbrev byDigits : ℕ → Bool
-byDigits a = eqb (a / 4096) 2 && (ltb (a / 16 % 16) 8 && not (eqb (a / 256 % 16) 0 && eqb (a / 16 % 16) 0))
-
--- both tests say the same of each address below n
-alike : ℕ → Bool
-alike zero = true
-alike (suc n) = choose (notSlave n) (choose (byDigits n) false (alike n)) (choose (byDigits n) (alike n) false)
-
--- and so of every address of 16 bits
-all-alike : alike 65536 ≡ true
-unfolding alike notSlave choose
-all-alike = refl
