@@ -3,9 +3,10 @@
  * Link with libvbus.a (x86-64, System V calling convention).
  *
  * Memory. No heap, no globals, nothing kept between calls: every function may be called from several threads and from
- * signal handlers at once. What a receiver must remember stands in a struct and a buffer of the caller's. The archive
- * needs nothing from outside. Stack: at most 256 bytes a call, but up to 6,400 in the four section functions, which
- * call themselves once a section: 48 bytes each, 127 sections at most. tests/stack in the repository measures it.
+ * signal handlers at once. What must be remembered, a receiver and its memory, a table of slaves and its figures, is the
+ * caller's. The archive needs nothing from outside. Stack: at most 256 bytes a call, but up to 6,400 in the four section
+ * functions, which call themselves once a section: 48 bytes each, 127 sections at most. tests/stack in the repository
+ * measures it.
  *
  * Pointers and owners. This is the caller's to keep; no function can check it:
  *  - A pointer has as many bytes, a table as many entries, behind it as the count says that follows it (n, room), and
@@ -17,12 +18,13 @@
  *    the call: a recording can't be normalized in place.
  *  - While a call runs, nothing else writes to its buffers, nor reads those that it writes.
  *  - Each `owner` in a table of slaves is 0 or 1 as a byte, as C and C++ store a bool. Whoever brings a table in as bytes,
- *    from flash say, must see to that before handing it over.
+ *    from flash say, must see to that before handing it over. That the figures handed over with a table are its own can be
+ *    checked (vbus_slave_check_figures), and nothing goes out of range where they aren't.
  *
  * Refusals. `number` is 0 where the function did its work, else the number of a refusal. At each function its refusals
  * stand in the order in which they are checked; the first that applies is given. After a refusal every buffer holds
- * what it held before, and every other field of the answer is 0, but a receiver, which comes back as it was. The
- * functions that change a table of slaves answer the number alone. A function without one never refuses.
+ * what it held before, and every other field of the answer is 0, but a receiver and the figures of a table, which come
+ * back as they were. vbus_slave_change_address answers the number alone. A function without one never refuses.
  *
  * Unused septet bits. Bit i of a septet is the top bit of byte i of its block. A packet's frame has four bytes and a
  * datagram six, so bits 4 to 6 of a packet's septets and bit 6 of a datagram's stand for no byte; a telegram's frame
@@ -40,7 +42,7 @@
 
 /* The version of this library, not of a stream. */
 #define VBUS_VERSION_MAJOR 0
-#define VBUS_VERSION_MINOR 8
+#define VBUS_VERSION_MINOR 9
 #define VBUS_VERSION_PATCH 0
 
 /* The longest payload and the longest stream, both those of a packet with 127 frames. */
@@ -177,6 +179,22 @@ typedef struct {
     uint32_t number;
     uint32_t product, device; /* those of the entry */
 } vbus_slave_found;
+
+/* What is kept with a table of slaves, so that no call counts. All zero bytes are those of an empty table. */
+typedef struct {
+    uint8_t no, yes; /* entries that the owners false and true hold */
+    uint8_t lowest; /* index of the lowest free entry, VBUS_SLAVES if none is free */
+} vbus_figures;
+
+typedef struct {
+    uint32_t number;
+    vbus_figures figures; /* to hand over with the next call */
+} vbus_slave_kept;
+
+typedef struct {
+    uint32_t number;
+    bool right; /* the figures are the table's */
+} vbus_figures_checked;
 
 /* The checksum of n bytes: 0x7F less each byte, the low seven bits kept. Of no bytes it is 0x7F. */
 uint8_t vbus_checksum(const uint8_t *bytes, size_t n);
@@ -337,34 +355,60 @@ vbus_written vbus_write_slave_id(uint16_t destination, uint16_t source, uint32_t
  * on the neighbour: after the same calls, of which the same were refused so, an owner finds the same and meets the same
  * other refusals, whatever its neighbour does.
  *
+ * Figures. With each table goes a vbus_figures of its own, which the caller keeps: zeroed with the empty table, handed
+ * over to vbus_slave_enter and vbus_slave_remove, and replaced by what these answer. vbus_slave_find and
+ * vbus_slave_change_address neither need nor change figures. From true ones, those that counting the table gives, each
+ * call, a refused one too, leaves true ones. They become false where the caller writes an address or an owner into the
+ * table by itself, drops figures that came back, or hands over those of another table.
+ * With figures that aren't true nothing goes out of range, a slave still goes into a free entry, and a refusal still
+ * changes nothing; only these may differ: whether a slave is refused as VBUS_TABLE_FULL, which free entry it goes into,
+ * and the figures afterwards. A table brought in with its figures, from flash say, is therefore checked with
+ * vbus_slave_check_figures. One without, or with false ones, is counted:
+ *
+ *     vbus_figures figures = {0, 0, VBUS_SLAVES};
+ *     for (size_t i = VBUS_SLAVES; i-- > 0;) {
+ *         if (table[i].address == 0) figures.lowest = (uint8_t)i;
+ *         else if (table[i].owner) figures.yes++;
+ *         else figures.no++;
+ *     }
+ *
  * The refusals, of which each function names its own; `number`, or the number that is answered, is 0 where there is none:
  *   VBUS_WRONG_TABLE_LENGTH (24): n isn't VBUS_SLAVES
  *   VBUS_NOT_SLAVE_ADDRESS (14): bits 14 to 12 of the (new) address aren't 2, bit 7 or 15 is set, or bits 11 to 4 are all
  *     0. A slave has 0x2010 to 0x201F, for example, or 0x2100, and none below 0x2010 or above 0x2F7F
  *   VBUS_NOT_SLAVE_ID (18): product or device is above 0xFFFFFF
  *   VBUS_ADDRESS_TAKEN (15): an entry of the owner has the (new) address
- *   VBUS_TABLE_FULL (16): the owner holds VBUS_SLAVES_PER_OWNER entries or more, or no entry of the table is free
+ *   VBUS_TABLE_FULL (16): the owner holds VBUS_SLAVES_PER_OWNER entries or more, or no entry of the table is free, by the
+ *     figures: the owner's is VBUS_SLAVES_PER_OWNER or more, or no entry from index `lowest` on is free
  *   VBUS_NO_SUCH_ADDRESS (17): no entry of the owner has the (old) address, or it is 0
  */
 
-/* Enters a slave, for the owner that it names, as the free entry with the lowest index.
+/* Enters a slave, for the owner that it names, as the free entry with the lowest index, which is sought from `lowest` on.
+ * Afterwards the owner's figure is one more, and `lowest` the free entry that comes next, VBUS_SLAVES if none does. After
+ * a refusal the figures are those handed in.
  *   VBUS_WRONG_TABLE_LENGTH (24), VBUS_NOT_SLAVE_ADDRESS (14), VBUS_NOT_SLAVE_ID (18), VBUS_ADDRESS_TAKEN (15),
  *   VBUS_TABLE_FULL (16) */
-uint32_t vbus_slave_enter(vbus_slave *table, size_t n, vbus_slave slave);
+vbus_slave_kept vbus_slave_enter(vbus_slave *table, size_t n, vbus_figures figures, vbus_slave slave);
 
 /* The identifiers of the owner's slave with an address.
  *   VBUS_WRONG_TABLE_LENGTH (24), VBUS_NO_SUCH_ADDRESS (17) */
 vbus_slave_found vbus_slave_find(const vbus_slave *table, size_t n, bool owner, uint16_t address);
 
-/* Gives the owner's slave with address `from` the address `to`; it keeps its owner and its identifiers. To the address
- * that it has, it succeeds and changes nothing.
+/* Gives the owner's slave with address `from` the address `to`; it keeps its owner and its identifiers, and its entry, so
+ * that the table's figures stay. To the address that it has, it succeeds and changes nothing.
  *   VBUS_WRONG_TABLE_LENGTH (24), VBUS_NOT_SLAVE_ADDRESS (14) for `to`, VBUS_NO_SUCH_ADDRESS (17) for `from`,
  *   VBUS_ADDRESS_TAKEN (15) for `to`, unless it is `from` */
 uint32_t vbus_slave_change_address(vbus_slave *table, size_t n, bool owner, uint16_t from, uint16_t to);
 
-/* Removes the owner's slave with an address: every field of its entry is 0 afterwards, so its owner false.
+/* Removes the owner's slave with an address: every field of its entry is 0 afterwards, so its owner false. The owner's
+ * figure is one less, or 0 if it was 0, and `lowest` that entry's index if it was above it. After a refusal the figures
+ * are those handed in.
  *   VBUS_WRONG_TABLE_LENGTH (24), VBUS_NO_SUCH_ADDRESS (17) */
-uint32_t vbus_slave_remove(vbus_slave *table, size_t n, bool owner, uint16_t address);
+vbus_slave_kept vbus_slave_remove(vbus_slave *table, size_t n, vbus_figures figures, bool owner, uint16_t address);
+
+/* Whether the figures are those that counting the table gives, all three of them. `right` is false in a refusal.
+ *   VBUS_WRONG_TABLE_LENGTH (24) */
+vbus_figures_checked vbus_slave_check_figures(const vbus_slave *table, size_t n, vbus_figures figures);
 
 #ifdef __cplusplus
 }

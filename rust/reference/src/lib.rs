@@ -3,7 +3,7 @@
 //! The differential tests compare the proved library with it, and the benchmarks measure against
 //! it. It therefore shares no code with the library and follows the same interface: an answer
 //! carries a `number`, 0 on success and else that of the refusal, and every other field of a refusal
-//! is zero.
+//! is zero, but the figures of a table, which come back as they were.
 
 #![forbid(unsafe_code)]
 
@@ -13,6 +13,10 @@ mod slaves;
 
 pub use faults::{faults, line, next_fault, Fault};
 pub use receiver::{Received, Receiver};
+pub use slaves::{
+    figures_of, slave_check_figures, slave_enter_counting, slave_remove_counting, Figures,
+    FiguresChecked, SlaveKept,
+};
 pub use slaves::{
     read_slave_id, slave_change_address, slave_enter, slave_find, slave_remove, write_slave_id,
 };

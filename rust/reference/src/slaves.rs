@@ -1,4 +1,4 @@
-//! The slave ID response, and a table of the slaves of two owners.
+//! The slave ID response, and a table of the slaves of two owners with its figures.
 
 use super::*;
 
@@ -47,6 +47,39 @@ pub struct SlaveFound {
     pub number: u32,
     pub product: u32,
     pub device: u32,
+}
+
+/// What is kept with a table: how many entries each owner holds, and the index of the lowest free one,
+/// 32 if there is none.
+#[derive(Clone, Copy, PartialEq, Eq, Debug, Default)]
+pub struct Figures {
+    pub no: u8,
+    pub yes: u8,
+    pub lowest: u8,
+}
+
+impl Figures {
+    /// How many entries an owner holds.
+    #[inline]
+    fn held(&mut self, owner: bool) -> &mut u8 {
+        if owner {
+            &mut self.yes
+        } else {
+            &mut self.no
+        }
+    }
+}
+
+#[derive(Clone, Copy, PartialEq, Eq, Debug, Default)]
+pub struct SlaveKept {
+    pub number: u32,
+    pub figures: Figures,
+}
+
+#[derive(Clone, Copy, PartialEq, Eq, Debug, Default)]
+pub struct FiguresChecked {
+    pub number: u32,
+    pub right: bool,
 }
 
 /// What a slave ID response tells: both identifiers, and of the device identifier the production week
@@ -140,12 +173,32 @@ fn check_unused(table: &[Slave], owner: bool, address: u16) -> Result<(), u32> {
     }
 }
 
-/// The lowest free entry, unless the owner has its share already.
-fn free_entry(table: &[Slave], owner: bool) -> Result<usize, u32> {
-    let held = table.iter().filter(|slave| slave.is_of(owner)).count();
-    match table.iter().position(Slave::is_free) {
-        Some(index) if held < SHARE => Ok(index),
-        _ => Err(NO_ENTRY_LEFT),
+/// The lowest free entry from an index on.
+fn free_from(table: &[Slave], start: usize) -> Option<usize> {
+    (start..table.len()).find(|index| table[*index].is_free())
+}
+
+/// A table's figures, by counting.
+pub fn figures_of(table: &[Slave]) -> Figures {
+    let held = |owner| table.iter().filter(|slave| slave.is_of(owner)).count() as u8;
+    Figures {
+        no: held(false),
+        yes: held(true),
+        lowest: free_from(table, 0).unwrap_or(TABLE) as u8,
+    }
+}
+
+/// Whether figures are those of the table.
+pub fn slave_check_figures(table: &[Slave], figures: Figures) -> FiguresChecked {
+    match check_length(table) {
+        Ok(()) => FiguresChecked {
+            number: 0,
+            right: figures == figures_of(table),
+        },
+        Err(number) => FiguresChecked {
+            number,
+            right: false,
+        },
     }
 }
 
@@ -153,21 +206,62 @@ fn number(answer: Result<(), u32>) -> u32 {
     answer.err().unwrap_or(0)
 }
 
-/// Puts a slave into the lowest free entry, for its owner; the answer is the number.
-pub fn slave_enter(table: &mut [Slave], slave: Slave) -> u32 {
-    number(enter(table, slave))
+/// In a refusal the figures come back as they were.
+fn kept(before: Figures, after: Result<Figures, u32>) -> SlaveKept {
+    match after {
+        Ok(figures) => SlaveKept { number: 0, figures },
+        Err(number) => SlaveKept {
+            number,
+            figures: before,
+        },
+    }
 }
 
-fn enter(table: &mut [Slave], slave: Slave) -> Result<(), u32> {
+/// Puts a slave into the lowest free entry, for its owner.
+pub fn slave_enter(table: &mut [Slave], figures: Figures, slave: Slave) -> SlaveKept {
+    kept(figures, enter(table, figures, slave))
+}
+
+/// Whatever the figures are, an entry that is taken is free: it is sought from the lowest on.
+fn enter(table: &mut [Slave], mut figures: Figures, slave: Slave) -> Result<Figures, u32> {
+    check_enterable(table, slave)?;
+    let held = figures.held(slave.owner);
+    if usize::from(*held) >= SHARE {
+        return Err(NO_ENTRY_LEFT);
+    }
+    let index = free_from(table, figures.lowest.into()).ok_or(NO_ENTRY_LEFT)?;
+    table[index] = slave;
+    *figures.held(slave.owner) += 1;
+    figures.lowest = free_from(table, index + 1).unwrap_or(TABLE) as u8;
+    Ok(figures)
+}
+
+/// All that is checked before 16.
+fn check_enterable(table: &[Slave], slave: Slave) -> Result<(), u32> {
     check_length(table)?;
     check_address(slave.address)?;
     if too_wide(slave.product, slave.device) {
         return Err(NOT_A_SLAVE_ID);
     }
-    check_unused(table, slave.owner, slave.address)?;
-    let index = free_entry(table, slave.owner)?;
-    table[index] = slave;
-    Ok(())
+    check_unused(table, slave.owner, slave.address)
+}
+
+/// The same by counting the table, as it was before figures were kept; the answer is the number.
+pub fn slave_enter_counting(table: &mut [Slave], slave: Slave) -> u32 {
+    number(enter_counting(table, slave))
+}
+
+fn enter_counting(table: &mut [Slave], slave: Slave) -> Result<(), u32> {
+    check_enterable(table, slave)?;
+    let own = table.iter().filter(|entry| entry.is_of(slave.owner));
+    let held = own.count();
+    match table.iter().position(Slave::is_free) {
+        Some(index) if held < SHARE => {
+            table[index] = slave;
+            Ok(())
+        }
+        _ => Err(NO_ENTRY_LEFT),
+    }
 }
 
 /// The identifiers of the owner's slave with that address.
@@ -207,14 +301,34 @@ fn change_address(table: &mut [Slave], owner: bool, from: u16, to: u16) -> Resul
     Ok(())
 }
 
-/// Zeroes the entry of the owner's slave with that address; the answer is the number.
-pub fn slave_remove(table: &mut [Slave], owner: bool, address: u16) -> u32 {
-    number(remove(table, owner, address))
+/// Zeroes the entry of the owner's slave with that address.
+pub fn slave_remove(table: &mut [Slave], figures: Figures, owner: bool, address: u16) -> SlaveKept {
+    kept(figures, remove(table, figures, owner, address))
 }
 
-fn remove(table: &mut [Slave], owner: bool, address: u16) -> Result<(), u32> {
+fn remove(
+    table: &mut [Slave],
+    mut figures: Figures,
+    owner: bool,
+    address: u16,
+) -> Result<Figures, u32> {
+    let index = zero(table, owner, address)?;
+    let held = figures.held(owner);
+    // Figures that aren't true may say that it held none.
+    *held = held.saturating_sub(1);
+    figures.lowest = figures.lowest.min(index as u8);
+    Ok(figures)
+}
+
+/// The same without figures, as it was before they were kept; the answer is the number.
+pub fn slave_remove_counting(table: &mut [Slave], owner: bool, address: u16) -> u32 {
+    number(zero(table, owner, address).map(|_| ()))
+}
+
+/// The index of the entry.
+fn zero(table: &mut [Slave], owner: bool, address: u16) -> Result<usize, u32> {
     check_length(table)?;
     let index = index_of(table, owner, address).ok_or(NO_SUCH_ADDRESS)?;
     table[index] = Slave::default();
-    Ok(())
+    Ok(index)
 }

@@ -826,13 +826,35 @@ fn full_table() -> [Slave; 32] {
     })
 }
 
+/// Enters with the table's own figures: those afterwards are the table's again, and the table and the
+/// number, which is answered, are those by counting.
+fn enter(table: &mut [Slave], slave: Slave) -> u32 {
+    let mut counted = table.to_vec();
+    let before = figures_of(table);
+    let SlaveKept { number, figures } = slave_enter(table, before, slave);
+    assert_eq!(slave_enter_counting(&mut counted, slave), number);
+    assert_eq!(table, counted);
+    assert_eq!(figures, figures_of(table));
+    number
+}
+
+fn remove(table: &mut [Slave], owner: bool, address: u16) -> u32 {
+    let mut counted = table.to_vec();
+    let before = figures_of(table);
+    let SlaveKept { number, figures } = slave_remove(table, before, owner, address);
+    assert_eq!(slave_remove_counting(&mut counted, owner, address), number);
+    assert_eq!(table, counted);
+    assert_eq!(figures, figures_of(table));
+    number
+}
+
 /// All four operations on the table, with the numbers given.
 fn numbers(table: &mut [Slave], slave: Slave, from: u16) -> [u32; 4] {
     [
-        slave_enter(table, slave),
+        enter(table, slave),
         slave_find(table, slave.owner, slave.address).number,
         slave_change_address(table, slave.owner, from, slave.address),
-        slave_remove(table, slave.owner, slave.address),
+        remove(table, slave.owner, slave.address),
     ]
 }
 
@@ -848,7 +870,7 @@ fn tables_of_other_lengths() {
                 product: 1 << 24,
                 ..slave(address)
             };
-            assert_eq!(slave_enter(&mut table, wide), 24);
+            assert_eq!(enter(&mut table, wide), 24);
         }
         assert_eq!(table, full[..length]);
     }
@@ -875,11 +897,7 @@ fn addresses_of_slaves() {
         (0xA010, 14),
     ] {
         let mut table = [Slave::default(); 32];
-        assert_eq!(
-            slave_enter(&mut table, slave(address)),
-            number,
-            "{address:04X}"
-        );
+        assert_eq!(enter(&mut table, slave(address)), number, "{address:04X}");
         table[0] = slave(0x2F00);
         let changed = slave_change_address(&mut table, OWNER, 0x2F00, address);
         assert_eq!(changed, number, "{address:04X}");
@@ -896,11 +914,11 @@ fn order_when_entering() {
         device: 1 << 24,
         ..slave(address)
     };
-    assert_eq!(slave_enter(&mut table, wide(0x2008)), 14);
-    assert_eq!(slave_enter(&mut table, slave(0x2008)), 14);
-    assert_eq!(slave_enter(&mut table, wide(0x2100)), 18);
-    assert_eq!(slave_enter(&mut table, slave(0x2100)), 15);
-    assert_eq!(slave_enter(&mut table, slave(0x2400)), 16);
+    assert_eq!(enter(&mut table, wide(0x2008)), 14);
+    assert_eq!(enter(&mut table, slave(0x2008)), 14);
+    assert_eq!(enter(&mut table, wide(0x2100)), 18);
+    assert_eq!(enter(&mut table, slave(0x2100)), 15);
+    assert_eq!(enter(&mut table, slave(0x2400)), 16);
     assert_eq!(table, before);
 }
 
@@ -912,7 +930,7 @@ fn entering_takes_the_lowest_free_entry() {
     table[17] = slave(0);
     let mut expected = table;
     for (address, index) in [(0x2400, 17), (0x2401, 30)] {
-        assert_eq!(slave_enter(&mut table, slave(address)), 0);
+        assert_eq!(enter(&mut table, slave(address)), 0);
         expected[index] = slave(address);
         assert_eq!(table, expected);
     }
@@ -961,10 +979,10 @@ fn finding_and_removing() {
             ..SlaveFound::default()
         };
         assert_eq!(slave_find(&table, OWNER, absent), refused);
-        assert_eq!(slave_remove(&mut table, OWNER, absent), 17);
+        assert_eq!(remove(&mut table, OWNER, absent), 17);
     }
     assert_eq!(table, before);
-    assert_eq!(slave_remove(&mut table, OWNER, 0xFFFF), 0);
+    assert_eq!(remove(&mut table, OWNER, 0xFFFF), 0);
     let mut expected = before;
     expected[5] = Slave::default();
     assert_eq!(table, expected);
@@ -986,7 +1004,7 @@ fn an_address_in_two_entries() {
     expected[3].address = 0x2400;
     assert_eq!(table, expected);
     assert_eq!(slave_find(&table, OWNER, 0x2103).product, table[20].product);
-    assert_eq!(slave_remove(&mut table, OWNER, 0x2103), 0);
+    assert_eq!(remove(&mut table, OWNER, 0x2103), 0);
     expected[20] = Slave::default();
     assert_eq!(table, expected);
 }
@@ -1008,7 +1026,7 @@ fn the_same_address_under_both_owners() {
             expected[entry].address = 0x2401;
             assert_eq!(table, expected);
             table = before;
-            assert_eq!(slave_remove(&mut table, owner, 0x2400), 0);
+            assert_eq!(remove(&mut table, owner, 0x2400), 0);
             expected[entry] = Slave::default();
             assert_eq!(table, expected);
             assert_eq!(slave_find(&table, owner, 0x2400).number, 17);
@@ -1023,12 +1041,12 @@ fn the_same_address_under_both_owners() {
 fn the_neighbours_addresses() {
     let mut table = full_table();
     assert_eq!(slave_find(&table, OWNER, 0x2300).number, 17);
-    assert_eq!(slave_remove(&mut table, OWNER, 0x2300), 17);
+    assert_eq!(remove(&mut table, OWNER, 0x2300), 17);
     assert_eq!(slave_change_address(&mut table, OWNER, 0x2300, 0x2400), 17);
     assert_eq!(table, full_table());
     assert_eq!(slave_change_address(&mut table, OWNER, 0x2100, 0x2300), 0);
-    assert_eq!(slave_remove(&mut table, OWNER, 0x2101), 0);
-    assert_eq!(slave_enter(&mut table, slave(0x2301)), 0);
+    assert_eq!(remove(&mut table, OWNER, 0x2101), 0);
+    assert_eq!(enter(&mut table, slave(0x2301)), 0);
     let mut expected = full_table();
     expected[0].address = 0x2300;
     expected[1] = slave(0x2301);
@@ -1057,13 +1075,13 @@ fn how_many_an_owner_may_hold() {
             };
             let mut table = shared(own, other);
             let mut expected = table;
-            assert_eq!(slave_enter(&mut table, slave(0x2400)), number);
+            assert_eq!(enter(&mut table, slave(0x2400)), number);
             if number == 0 {
                 expected[own + other] = slave(0x2400);
             }
             assert_eq!(table, expected, "{own} and {other}");
             if own > 0 {
-                assert_eq!(slave_enter(&mut table, slave(0x2100)), 15);
+                assert_eq!(enter(&mut table, slave(0x2100)), 15);
             }
         }
     }
@@ -1074,18 +1092,203 @@ fn how_many_an_owner_may_hold() {
 fn two_owners_fill_a_table() {
     let mut table = [Slave::default(); 32];
     for slave in &shared(24, 8) {
-        assert_eq!(slave_enter(&mut table, *slave), 0);
+        assert_eq!(enter(&mut table, *slave), 0);
     }
     assert_eq!(table, shared(24, 8));
-    assert_eq!(slave_enter(&mut table, slave(0x2400)), 16);
-    assert_eq!(slave_enter(&mut table, others(0x2400)), 16);
+    assert_eq!(enter(&mut table, slave(0x2400)), 16);
+    assert_eq!(enter(&mut table, others(0x2400)), 16);
     // Another's free entry is no use to an owner that has its share.
-    assert_eq!(slave_remove(&mut table, !OWNER, 0x210F), 0);
-    assert_eq!(slave_enter(&mut table, slave(0x2400)), 16);
-    assert_eq!(slave_enter(&mut table, others(0x2400)), 0);
-    assert_eq!(slave_enter(&mut table, others(0x2401)), 16);
-    assert_eq!(slave_remove(&mut table, OWNER, 0x2100), 0);
-    assert_eq!(slave_enter(&mut table, others(0x2401)), 0);
+    assert_eq!(remove(&mut table, !OWNER, 0x210F), 0);
+    assert_eq!(enter(&mut table, slave(0x2400)), 16);
+    assert_eq!(enter(&mut table, others(0x2400)), 0);
+    assert_eq!(enter(&mut table, others(0x2401)), 16);
+    assert_eq!(remove(&mut table, OWNER, 0x2100), 0);
+    assert_eq!(enter(&mut table, others(0x2401)), 0);
     assert_eq!(table[0], others(0x2401));
-    assert_eq!(slave_enter(&mut table, slave(0x2100)), 16);
+    assert_eq!(enter(&mut table, slave(0x2100)), 16);
+}
+
+const fn figures(no: u8, yes: u8, lowest: u8) -> Figures {
+    Figures { no, yes, lowest }
+}
+
+/// An entry is held if its address isn't 0, whatever else it has.
+#[test]
+fn figures_by_counting() {
+    let mut table = [Slave::default(); 32];
+    assert_eq!(figures_of(&table), Figures::default());
+    table[0] = others(0xFFFF);
+    table[1] = slave(1);
+    table[2] = slave(0);
+    table[31] = slave(0x2100);
+    assert_eq!(figures_of(&table), figures(1, 2, 2));
+    assert_eq!(figures_of(&full_table()), figures(16, 16, 32));
+    assert_eq!(figures_of(&shared(24, 8)), figures(8, 24, 32));
+    assert_eq!(figures_of(&shared(32, 0)), figures(0, 32, 32));
+    assert_eq!(figures_of(&shared(0, 25)), figures(25, 0, 25));
+}
+
+/// Right are the table's figures, and no others; 24 comes first.
+#[test]
+fn checking_figures() {
+    let mut table = shared(5, 7);
+    table[3].address = 0;
+    let right = figures_of(&table);
+    assert_eq!(right, figures(7, 4, 3));
+    let checked = |number, right| FiguresChecked { number, right };
+    assert_eq!(slave_check_figures(&table, right), checked(0, true));
+    for value in 0..=255 {
+        for (false_ones, is) in [
+            (figures(value, 4, 3), value == 7),
+            (figures(7, value, 3), value == 4),
+            (figures(7, 4, value), value == 3),
+        ] {
+            assert_eq!(slave_check_figures(&table, false_ones), checked(0, is));
+        }
+    }
+    // The owners' exchanged.
+    let exchanged = slave_check_figures(&table, figures(4, 7, 3));
+    assert_eq!(exchanged, checked(0, false));
+    for length in [0, 1, 31, 33] {
+        let table = vec![Slave::default(); length];
+        for figures in [Figures::default(), figures_of(&table)] {
+            assert_eq!(slave_check_figures(&table, figures), checked(24, false));
+        }
+    }
+}
+
+/// Kept from call to call, from the empty table's on.
+#[test]
+fn figures_from_call_to_call() {
+    let mut table = [Slave::default(); 32];
+    let mut kept = SlaveKept::default();
+    let enter = |table: &mut [Slave], kept: &mut SlaveKept, slave| {
+        *kept = slave_enter(table, kept.figures, slave);
+    };
+    let remove = |table: &mut [Slave], kept: &mut SlaveKept, owner, address| {
+        *kept = slave_remove(table, kept.figures, owner, address);
+    };
+    let is = |number, no, yes, lowest| SlaveKept {
+        number,
+        figures: figures(no, yes, lowest),
+    };
+    enter(&mut table, &mut kept, slave(0x2100));
+    assert_eq!(kept, is(0, 0, 1, 1));
+    enter(&mut table, &mut kept, others(0x2100));
+    assert_eq!(kept, is(0, 1, 1, 2));
+    enter(&mut table, &mut kept, slave(0x2101));
+    assert_eq!(kept, is(0, 1, 2, 3));
+    enter(&mut table, &mut kept, slave(0x2101));
+    assert_eq!(kept, is(15, 1, 2, 3));
+    remove(&mut table, &mut kept, !OWNER, 0x2101);
+    assert_eq!(kept, is(17, 1, 2, 3));
+    remove(&mut table, &mut kept, OWNER, 0x2101);
+    assert_eq!(kept, is(0, 1, 1, 2));
+    remove(&mut table, &mut kept, OWNER, 0x2100);
+    assert_eq!(kept, is(0, 1, 0, 0));
+    // Behind the lowest free entry others may be free.
+    enter(&mut table, &mut kept, slave(0x2102));
+    assert_eq!(kept, is(0, 1, 1, 2));
+    enter(&mut table, &mut kept, slave(0x2000));
+    assert_eq!(kept, is(14, 1, 1, 2));
+    let mut table = full_table();
+    kept.figures = figures_of(&table);
+    enter(&mut table, &mut kept, slave(0x2400));
+    assert_eq!(kept, is(16, 16, 16, 32));
+    remove(&mut table, &mut kept, !OWNER, 0x230F);
+    assert_eq!(kept, is(0, 15, 16, 31));
+    remove(&mut table, &mut kept, OWNER, 0x2103);
+    assert_eq!(kept, is(0, 15, 15, 3));
+    enter(&mut table, &mut kept, slave(0x2400));
+    assert_eq!(kept, is(0, 15, 16, 31));
+    enter(&mut table, &mut kept, slave(0x2401));
+    assert_eq!(kept, is(0, 15, 17, 32));
+}
+
+/// 16 by the figures alone: with an owner's of 24 or more, or without a free entry from the lowest on.
+/// The entry that is taken is free. What comes before 16 stays.
+#[test]
+fn entering_with_false_figures() {
+    let mut before = full_table();
+    before[5].address = 0;
+    before[20].address = 0;
+    for value in 0..=255u8 {
+        for (slave, given, raised) in [
+            (slave(0x2400), figures(0, value, 0), figures(0, 1, 0)),
+            (others(0x2400), figures(value, 0, 0), figures(1, 0, 0)),
+        ] {
+            let mut table = before;
+            let kept = slave_enter(&mut table, given, slave);
+            let mut expected = before;
+            if value < 24 {
+                expected[5] = slave;
+                let after = figures(given.no + raised.no, given.yes + raised.yes, 20);
+                assert_eq!((kept.number, kept.figures), (0, after));
+            } else {
+                assert_eq!((kept.number, kept.figures), (16, given));
+            }
+            assert_eq!(table, expected);
+        }
+        let mut table = before;
+        let kept = slave_enter(&mut table, figures(99, 7, value), slave(0x2400));
+        let (index, after) = match value {
+            0..=5 => (Some(5), figures(99, 8, 20)),
+            6..=20 => (Some(20), figures(99, 8, 32)),
+            _ => (None, figures(99, 7, value)),
+        };
+        let mut expected = before;
+        if let Some(index) = index {
+            expected[index] = slave(0x2400);
+        }
+        let number = if index.is_some() { 0 } else { 16 };
+        assert_eq!((kept.number, kept.figures), (number, after));
+        assert_eq!(table, expected);
+        let any = figures(value, value, value);
+        for (slave, number) in [
+            (slave(0x2000), 14),
+            (slave(0x2100), 15),
+            (others(0x2300), 15),
+        ] {
+            let mut table = before;
+            let kept = slave_enter(&mut table, any, slave);
+            assert_eq!((kept.number, kept.figures), (number, any));
+            assert_eq!(table, before);
+        }
+    }
+}
+
+/// Removing goes by the table; 0 stays 0, and the lowest is never raised.
+#[test]
+fn removing_with_false_figures() {
+    for value in 0..=255u8 {
+        let mut table = full_table();
+        let kept = slave_remove(&mut table, figures(value, 9, value), !OWNER, 0x2304);
+        let after = figures(value.saturating_sub(1), 9, value.min(20));
+        assert_eq!((kept.number, kept.figures), (0, after));
+        let mut expected = full_table();
+        expected[20] = Slave::default();
+        assert_eq!(table, expected);
+        let any = figures(value, 0, 255 - value);
+        let kept = slave_remove(&mut table, any, !OWNER, 0x2304);
+        assert_eq!((kept.number, kept.figures), (17, any));
+        assert_eq!(table, expected);
+        let kept = slave_remove(&mut table, any, OWNER, 0x2100);
+        let after = figures(value, 0, 0);
+        assert_eq!((kept.number, kept.figures), (0, after));
+    }
+}
+
+/// 24 comes first, whatever the figures, which come back.
+#[test]
+fn figures_of_other_lengths() {
+    for length in [0, 1, 31, 33] {
+        let mut table = vec![Slave::default(); length];
+        let any = figures(1, 200, 77);
+        for kept in [
+            slave_enter(&mut table, any, slave(0x2100)),
+            slave_remove(&mut table, any, OWNER, 0x2100),
+        ] {
+            assert_eq!((kept.number, kept.figures), (24, any));
+        }
+    }
 }

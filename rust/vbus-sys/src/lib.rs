@@ -5,8 +5,8 @@
 //! build time, else from `target/staticlib` at the repository's top, where `./build vbus` puts it.
 //!
 //! An answer's `number` is 0, or that of a refusal; every other field of a refused answer is 0, but
-//! a receiver, which comes back as it was. The functions that change a table of slaves answer the
-//! number alone.
+//! a receiver and the figures of a table, which come back as they were. `vbus_slave_change_address`
+//! answers the number alone.
 //!
 //! # Safety
 //!
@@ -211,6 +211,38 @@ pub struct SlaveFound {
     pub device: u32,
 }
 
+/// What is kept with a table of slaves. The default ones are those of an empty table.
+#[repr(C)]
+#[derive(Clone, Copy, PartialEq, Eq, Debug, Default)]
+pub struct Figures {
+    /// Entries that the owner `false` holds.
+    pub no: u8,
+    /// Entries that the owner `true` holds.
+    pub yes: u8,
+    /// The index of the lowest free entry, [`SLAVES`] if none is free.
+    pub lowest: u8,
+}
+
+/// The number that a call answers which changes a table's figures, and the figures afterwards.
+#[repr(C)]
+#[derive(Clone, Copy, PartialEq, Eq, Debug, Default)]
+pub struct SlaveKept {
+    /// 0, or the number of the refusal.
+    pub number: u32,
+    /// To hand over with the next call.
+    pub figures: Figures,
+}
+
+/// Whether figures are those of a table.
+#[repr(C)]
+#[derive(Clone, Copy, PartialEq, Eq, Debug, Default)]
+pub struct FiguresChecked {
+    /// 0, or the number of the refusal.
+    pub number: u32,
+    /// Whether they are.
+    pub right: bool,
+}
+
 extern "C" {
     /// The checksum of a block.
     pub fn vbus_checksum(bytes: *const u8, n: usize) -> u8;
@@ -304,7 +336,12 @@ extern "C" {
     ) -> Written;
 
     /// Enters a slave, for the owner that it names, as the free entry with the lowest index.
-    pub fn vbus_slave_enter(table: *mut Slave, n: usize, slave: Slave) -> u32;
+    pub fn vbus_slave_enter(
+        table: *mut Slave,
+        n: usize,
+        figures: Figures,
+        slave: Slave,
+    ) -> SlaveKept;
 
     /// The identifiers of the owner's slave with an address.
     pub fn vbus_slave_find(table: *const Slave, n: usize, owner: bool, address: u16) -> SlaveFound;
@@ -319,5 +356,18 @@ extern "C" {
     ) -> u32;
 
     /// Removes the owner's slave with an address.
-    pub fn vbus_slave_remove(table: *mut Slave, n: usize, owner: bool, address: u16) -> u32;
+    pub fn vbus_slave_remove(
+        table: *mut Slave,
+        n: usize,
+        figures: Figures,
+        owner: bool,
+        address: u16,
+    ) -> SlaveKept;
+
+    /// Whether the figures are those that counting the table gives.
+    pub fn vbus_slave_check_figures(
+        table: *const Slave,
+        n: usize,
+        figures: Figures,
+    ) -> FiguresChecked;
 }

@@ -66,7 +66,7 @@ pub use record::{encode_to_vec, normalize_to_vec, records, Entry, Record, Record
 pub use record_reader::RecordReader;
 pub use sections::{section, sections, Elements, Section, Sections};
 pub use slave_id::{read_slave_id, write_slave_id, Identifiers, SlaveId};
-pub use slaves::{Slave, SlaveTable, Slaves};
+pub use slaves::{Figures, Slave, SlaveTable, Slaves};
 
 /// The longest payload, that of a packet with 127 frames.
 pub const MAX_PAYLOAD: usize = 508;

@@ -47,6 +47,52 @@ impl Slave {
     }
 }
 
+/// What is kept with a table of slaves, so that no call counts. The default ones are those of an empty
+/// table.
+#[derive(Clone, Copy, PartialEq, Eq, Hash, Debug, Default)]
+pub struct Figures {
+    /// How many entries the owner `false` holds.
+    pub no: u8,
+    /// How many entries the owner `true` holds.
+    pub yes: u8,
+    /// The index of the lowest free entry, [`SLAVES`] if none is free.
+    pub lowest: u8,
+}
+
+impl Figures {
+    /// Those of a table, by counting.
+    fn of(entries: &[vbus_sys::Slave; SLAVES]) -> Figures {
+        let mut figures = Figures {
+            lowest: SLAVES as u8,
+            ..Figures::default()
+        };
+        for (index, entry) in entries.iter().enumerate().rev() {
+            match (entry.address, entry.owner) {
+                (0, _) => figures.lowest = index as u8,
+                (_, false) => figures.no += 1,
+                (_, true) => figures.yes += 1,
+            }
+        }
+        figures
+    }
+
+    const fn to_sys(self) -> vbus_sys::Figures {
+        vbus_sys::Figures {
+            no: self.no,
+            yes: self.yes,
+            lowest: self.lowest,
+        }
+    }
+
+    const fn from_sys(figures: vbus_sys::Figures) -> Figures {
+        Figures {
+            no: figures.no,
+            yes: figures.yes,
+            lowest: figures.lowest,
+        }
+    }
+}
+
 /// A table of at most [`SLAVES`] slaves of two owners, by their addresses.
 ///
 /// The owners are `false` and `true`, such as two plants whose buses end in one box. A call is about
@@ -113,21 +159,30 @@ impl Slave {
 /// # Ok::<(), vbus::Error>(())
 /// ```
 ///
-/// It needs no heap, and [`SlaveTable::new`] is `const`, so that it can be part of a `static`. Made
-/// into an array, and of one, it can be kept elsewhere, such as in flash:
+/// It needs no heap, and [`SlaveTable::new`] is `const`, so that it can be part of a `static`.
+///
+/// With its entries it keeps its [`Figures`], so that no call counts. They are always true: just what
+/// counting the entries gives. Made into its parts, and of them, a table can be kept elsewhere, such as
+/// in flash. [`from_parts`](SlaveTable::from_parts) checks the figures; of the entries alone, a table is
+/// made by counting them.
 ///
 /// ```
-/// # use vbus::{Slave, SlaveTable, SLAVES};
-/// # let mut table = SlaveTable::new();
-/// # table.enter(Slave { address: 0x2010, owner: true, product: 888_888, device: 2_344_630 })?;
-/// let kept: [Slave; SLAVES] = table.clone().into();
+/// use vbus::{Figures, Slave, SlaveTable};
+///
+/// let mut table = SlaveTable::new();
+/// table.enter(Slave { address: 0x2010, owner: true, product: 888_888, device: 2_344_630 })?;
+/// let (kept, figures) = table.clone().into_parts();
 /// assert_eq!((kept[0].owner, kept[0].address), (true, 0x2010));
+/// assert_eq!(figures, Figures { no: 0, yes: 1, lowest: 1 });
+/// assert_eq!(SlaveTable::from_parts(kept, figures), Some(table.clone()));
 /// assert_eq!(SlaveTable::from(kept), table);
 /// # Ok::<(), vbus::Error>(())
 /// ```
 #[derive(Clone, PartialEq, Eq, Debug)]
 pub struct SlaveTable {
     entries: [vbus_sys::Slave; SLAVES],
+    /// Those of the entries.
+    figures: vbus_sys::Figures,
 }
 
 impl SlaveTable {
@@ -139,9 +194,66 @@ impl SlaveTable {
             product: 0,
             device: 0,
         };
+        let none = Figures {
+            no: 0,
+            yes: 0,
+            lowest: 0,
+        };
         SlaveTable {
             entries: [free; SLAVES],
+            figures: none.to_sys(),
         }
+    }
+
+    /// A table with just these entries and figures, or `None` if the figures aren't those of the
+    /// entries. The entries may be any, as where a table is made [from](From) them alone.
+    ///
+    /// ```
+    /// use vbus::{Figures, Slave, SlaveTable, SLAVES};
+    ///
+    /// let mut entries = [Slave::default(); SLAVES];
+    /// let empty = Figures::default();
+    /// assert_eq!(SlaveTable::from_parts(entries, empty), Some(SlaveTable::new()));
+    /// entries[0] = Slave { address: 0x2010, owner: false, product: 1, device: 2 };
+    /// assert_eq!(SlaveTable::from_parts(entries, empty), None);
+    /// assert!(SlaveTable::from_parts(entries, Figures { no: 1, yes: 0, lowest: 1 }).is_some());
+    /// ```
+    pub fn from_parts(entries: [Slave; SLAVES], figures: Figures) -> Option<SlaveTable> {
+        let (entries, figures) = (entries.map(Slave::to_sys), figures.to_sys());
+        let (table, n) = (entries.as_ptr(), entries.len());
+        // SAFETY: pointer and count are those of an array.
+        let answer = unsafe { vbus_sys::vbus_slave_check_figures(table, n, figures) };
+        answer.right.then_some(SlaveTable { entries, figures })
+    }
+
+    /// All entries, the free ones too, and the figures.
+    pub fn into_parts(self) -> ([Slave; SLAVES], Figures) {
+        let figures = self.figures();
+        (self.into(), figures)
+    }
+
+    /// How many entries each owner holds, and the lowest free one.
+    ///
+    /// ```
+    /// use vbus::{Figures, Slave, SlaveTable};
+    ///
+    /// let mut table = SlaveTable::new();
+    /// for (owner, address) in [(true, 0x2010), (false, 0x2010), (true, 0x2020)] {
+    ///     table.enter(Slave { address, owner, product: 1, device: 2 })?;
+    /// }
+    /// assert_eq!(table.figures(), Figures { no: 1, yes: 2, lowest: 3 });
+    /// table.remove(false, 0x2010)?;
+    /// assert_eq!(table.figures(), Figures { no: 0, yes: 2, lowest: 1 });
+    /// # Ok::<(), vbus::Error>(())
+    /// ```
+    pub const fn figures(&self) -> Figures {
+        Figures::from_sys(self.figures)
+    }
+
+    /// Keeps the figures that a call answered.
+    fn keep(&mut self, answer: vbus_sys::SlaveKept) -> Result<(), Error> {
+        self.figures = answer.figures;
+        check(answer.number)
     }
 
     /// Enters a slave, for the owner that it names, as the free entry with the lowest index.
@@ -166,7 +278,8 @@ impl SlaveTable {
     pub fn enter(&mut self, slave: Slave) -> Result<(), Error> {
         let (table, n) = (self.entries.as_mut_ptr(), self.entries.len());
         // SAFETY: pointer and count are those of an array that is borrowed mutably.
-        check(unsafe { vbus_sys::vbus_slave_enter(table, n, slave.to_sys()) })
+        let answer = unsafe { vbus_sys::vbus_slave_enter(table, n, self.figures, slave.to_sys()) };
+        self.keep(answer)
     }
 
     /// The identifiers of the owner's slave with an address. The address 0, that of free entries, is
@@ -214,7 +327,8 @@ impl SlaveTable {
     pub fn remove(&mut self, owner: bool, address: u16) -> Result<(), Error> {
         let (table, n) = (self.entries.as_mut_ptr(), self.entries.len());
         // SAFETY: pointer and count are those of an array that is borrowed mutably.
-        check(unsafe { vbus_sys::vbus_slave_remove(table, n, owner, address) })
+        let answer = unsafe { vbus_sys::vbus_slave_remove(table, n, self.figures, owner, address) };
+        self.keep(answer)
     }
 
     /// The entries that aren't free, in order: both owners' slaves.
@@ -256,14 +370,15 @@ impl Default for SlaveTable {
     }
 }
 
-/// A table with just these entries. Nothing is checked: an address that no slave has can be found,
-/// changed and removed, of one that stands twice under an owner the entry with the lower index counts,
-/// and an owner with more entries than it may hold keeps them, and gets no further one.
+/// A table with just these entries, and the figures that counting them gives. Nothing is checked: an
+/// address that no slave has can be found, changed and removed, of one that stands twice under an owner
+/// the entry with the lower index counts, and an owner with more entries than it may hold keeps them,
+/// and gets no further one.
 impl From<[Slave; SLAVES]> for SlaveTable {
     fn from(entries: [Slave; SLAVES]) -> SlaveTable {
-        SlaveTable {
-            entries: entries.map(Slave::to_sys),
-        }
+        let entries = entries.map(Slave::to_sys);
+        let figures = Figures::of(&entries).to_sys();
+        SlaveTable { entries, figures }
     }
 }
 
