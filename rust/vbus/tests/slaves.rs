@@ -374,3 +374,82 @@ fn shares_brought_in() {
         assert_eq!(table.enter(slave_of(!owner, 0x2F71)), Ok(()));
     }
 }
+
+const fn figures(no: u8, yes: u8, lowest: u8) -> Figures {
+    Figures { no, yes, lowest }
+}
+
+/// A table has the figures that counting it gives, whatever was called.
+fn counted(table: &SlaveTable) {
+    let entries = entries(table);
+    let held = |owner| table.slaves().filter(|slave| slave.owner == owner).count() as u8;
+    let free = entries.iter().position(|slave| slave.address == 0);
+    let lowest = free.unwrap_or(SLAVES) as u8;
+    assert_eq!(table.figures(), figures(held(false), held(true), lowest));
+    assert_eq!(SlaveTable::from(entries), *table);
+}
+
+#[test]
+fn figures_from_call_to_call() {
+    let mut table = SlaveTable::new();
+    assert_eq!(table.figures(), Figures::default());
+    for slave in slaves() {
+        assert_eq!(table.enter(slave), Ok(()));
+        counted(&table);
+    }
+    assert_eq!(table.figures(), figures(8, 24, 32));
+    refused(&mut table, Error::TableFull, |table| {
+        table.enter(slave_of(!OWNER, 0x2F70))
+    });
+    for index in [20, 3, 31, 4] {
+        let Slave { owner, address, .. } = slaves()[index];
+        assert_eq!(table.remove(owner, address), Ok(()));
+        counted(&table);
+        refused(&mut table, Error::NoSuchAddress, |table| {
+            table.remove(owner, address)
+        });
+    }
+    assert_eq!(table.figures(), figures(7, 21, 3));
+    let from = slaves()[0].address;
+    assert_eq!(table.change_address(OWNER, from, 0x2F7F), Ok(()));
+    counted(&table);
+    for (address, after) in [(0x2F70, 4), (0x2F71, 20), (0x2F72, 31)] {
+        assert_eq!(table.enter(slave(address)), Ok(()));
+        assert_eq!(table.figures().lowest, after);
+        counted(&table);
+    }
+    // The owner's share is used up, though an entry is free.
+    refused(&mut table, Error::TableFull, |table| {
+        table.enter(slave(0x2F73))
+    });
+    assert_eq!(table.figures(), figures(7, 24, 31));
+}
+
+/// A table is made of its parts alone: of entries and just their figures.
+#[test]
+fn parts() {
+    let mut holes = slaves();
+    holes[6] = Slave::default();
+    holes[9] = slave(0);
+    holes[30].address = 0xFFFF;
+    let twice = [slave(0x2010); SLAVES];
+    for entries in [[Slave::default(); SLAVES], slaves(), holes, twice] {
+        let table = SlaveTable::from(entries);
+        counted(&table);
+        let (parts, own) = table.clone().into_parts();
+        assert_eq!((parts, own), (entries, table.figures()));
+        assert_eq!(SlaveTable::from_parts(parts, own), Some(table));
+        for value in 0..=255 {
+            for false_or_own in [
+                figures(value, own.yes, own.lowest),
+                figures(own.no, value, own.lowest),
+                figures(own.no, own.yes, value),
+            ] {
+                let made = SlaveTable::from_parts(entries, false_or_own);
+                assert_eq!(made.is_some(), false_or_own == own);
+            }
+        }
+    }
+    assert_eq!(SlaveTable::from(holes).figures(), figures(8, 22, 6));
+    assert_eq!(SlaveTable::from(twice).figures(), figures(0, 32, 32));
+}
