@@ -9,7 +9,7 @@ use reference::{Header, Validation};
 pub type Class = (&'static str, fn(&mut Checker) -> Checked<()>);
 
 /// The classes of random cases.
-pub const CLASSES: [Class; 25] = [
+pub const CLASSES: [Class; 26] = [
     ("valid", |c| c.random_recording(recordings::recording)),
     ("one bit", |c| c.random_recording(recordings::one_bit)),
     ("one byte", |c| c.random_recording(recordings::one_byte)),
@@ -39,6 +39,7 @@ pub const CLASSES: [Class; 25] = [
     ("slave IDs", Checker::random_slave_id),
     ("slaves: runs", Checker::random_slaves),
     ("owners: histories", Checker::random_owners),
+    ("figures: runs", Checker::random_figures),
 ];
 
 /// The records of random recordings by how many of their blocks have unused septet bits; those of a
@@ -457,6 +458,9 @@ impl Checker {
         self.shares_by_calls()?;
         self.many_slaves()?;
         self.many_owners()?;
+        self.figures_without_table()?;
+        self.every_figure()?;
+        self.many_figures()?;
         for byte in 0..=255 {
             self.checksum(&[byte])?;
             for at in 0..6 {

@@ -6,7 +6,7 @@ use crate::recordings::{MAX_PAYLOAD, MAX_STREAM};
 use crate::rng::Rng;
 use crate::slaves::{Operation, Table};
 use reference::{Count, Fault, Found, Header, Part, Received, Validation, Written};
-use reference::{Slave, SlaveFound, SlaveId};
+use reference::{Figures, FiguresChecked, Slave, SlaveFound, SlaveId};
 use std::collections::BTreeMap;
 use std::fmt;
 use std::fs::File;
@@ -589,27 +589,52 @@ impl Checker {
         Ok((written, stream))
     }
 
-    /// One call on a table of slaves: the answer, and the table afterwards.
+    /// One call on a table of slaves: the answer, and the table afterwards. The table gets the figures
+    /// that come back.
     pub fn on_table(
         &mut self,
         table: &mut Table,
         operation: Operation,
     ) -> Checked<(SlaveFound, Vec<Slave>)> {
         let before = table.slaves();
-        let (answer, after) = self.same(
-            || format!("{operation:X?} on {} entries {before:X?}", before.len()),
+        let figures = table.figures;
+        let (answer, after, figures) = self.same(
             || {
-                let answer = operation.by_library(table.lent());
-                (answer, table.slaves())
+                let n = before.len();
+                format!("{operation:X?} with {figures:?} on {n} entries {before:X?}")
             },
             || {
-                let mut slaves = before.clone();
-                let answer = operation.by_reference(&mut slaves);
-                (answer, slaves)
+                let mut figures = figures;
+                let answer = operation.by_library(table.lent(), &mut figures);
+                (answer, table.slaves(), figures)
+            },
+            || {
+                let (mut slaves, mut figures) = (before.clone(), figures);
+                let answer = operation.by_reference(&mut slaves, &mut figures);
+                (answer, slaves, figures)
             },
         )?;
+        table.figures = figures;
         self.number(answer.number);
         Ok((answer, after))
+    }
+
+    pub fn slave_check_figures(
+        &mut self,
+        table: &mut Table,
+        figures: Figures,
+    ) -> Checked<FiguresChecked> {
+        let slaves = table.slaves();
+        let answer = self.same(
+            || {
+                let n = slaves.len();
+                format!("vbus_slave_check_figures({figures:?}) on {n} entries {slaves:X?}")
+            },
+            || library::slave_check_figures(table.lent(), figures),
+            || reference::slave_check_figures(&slaves, figures),
+        )?;
+        self.number(answer.number);
+        Ok(answer)
     }
 
     /// Fails with `what` unless `condition` holds.

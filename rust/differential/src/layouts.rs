@@ -3,7 +3,7 @@
 use crate::check::{Checked, Checker};
 use crate::library::{self, Entry, Receiver};
 use reference::{Count, Fault, Found, Header, Part, Received, Septets, Validation, Written};
-use reference::{Slave, SlaveFound, SlaveId};
+use reference::{Figures, FiguresChecked, Slave, SlaveFound, SlaveId, SlaveKept};
 use std::mem::{offset_of, size_of, transmute};
 
 const HEADER: Header = Header {
@@ -109,30 +109,39 @@ type ReceiveBytes = unsafe extern "C" fn(
 type Entries = *mut vbus_sys::Slave;
 type ConstEntries = *const vbus_sys::Slave;
 
-type Enter = unsafe extern "C" fn(Entries, usize, vbus_sys::Slave) -> u32;
+type Enter =
+    unsafe extern "C" fn(Entries, usize, vbus_sys::Figures, vbus_sys::Slave) -> vbus_sys::SlaveKept;
 type Find = unsafe extern "C" fn(ConstEntries, usize, bool, u16) -> vbus_sys::SlaveFound;
 type ChangeAddress = unsafe extern "C" fn(Entries, usize, bool, u16, u16) -> u32;
-type Remove = unsafe extern "C" fn(Entries, usize, bool, u16) -> u32;
+type Remove =
+    unsafe extern "C" fn(Entries, usize, vbus_sys::Figures, bool, u16) -> vbus_sys::SlaveKept;
+type CheckFigures =
+    unsafe extern "C" fn(ConstEntries, usize, vbus_sys::Figures) -> vbus_sys::FiguresChecked;
 
-type EnterWords = unsafe extern "C" fn(Entries, usize, u64, u64) -> u32;
+type EnterWords = unsafe extern "C" fn(Entries, usize, u64, u64, u64) -> u64;
 type FindWords = unsafe extern "C" fn(ConstEntries, usize, u64, u64) -> vbus_sys::SlaveFound;
 type ChangeAddressWords = unsafe extern "C" fn(Entries, usize, u64, u64, u64) -> u32;
-type RemoveWords = unsafe extern "C" fn(Entries, usize, u64, u64) -> u32;
+type RemoveWords = unsafe extern "C" fn(Entries, usize, u64, u64, u64) -> u64;
+type CheckFiguresWords = unsafe extern "C" fn(ConstEntries, usize, u64) -> u64;
 
-/// The calls on a table of slaves, with what they get by value as it lies in the registers.
+/// The calls on a table of slaves, with what they get by value as it lies in the registers, and so what
+/// they answer in one.
 struct ByWords {
     enter: EnterWords,
     find: FindWords,
     change_address: ChangeAddressWords,
     remove: RemoveWords,
+    check_figures: CheckFiguresWords,
 }
 
 fn by_words() -> ByWords {
     use vbus_sys::{
-        vbus_slave_change_address, vbus_slave_enter, vbus_slave_find, vbus_slave_remove,
+        vbus_slave_change_address, vbus_slave_check_figures, vbus_slave_enter, vbus_slave_find,
+        vbus_slave_remove,
     };
-    // SAFETY: a struct of twelve bytes is passed in two registers, as two numbers of 64 bits are, and a
-    // bool or a number of 16 bits in the lower half of one.
+    // SAFETY: a struct of twelve bytes is passed in two registers, as two numbers of 64 bits are, one of
+    // three bytes, a bool or a number of 16 bits in the lower part of one, and a struct of eight bytes is
+    // answered in one.
     unsafe {
         ByWords {
             enter: transmute::<Enter, EnterWords>(vbus_slave_enter),
@@ -141,8 +150,15 @@ fn by_words() -> ByWords {
                 vbus_slave_change_address,
             ),
             remove: transmute::<Remove, RemoveWords>(vbus_slave_remove),
+            check_figures: transmute::<CheckFigures, CheckFiguresWords>(vbus_slave_check_figures),
         }
     }
+}
+
+/// The number and the three figures of an answer as it lies in a register; its last byte may be anything.
+fn kept_bytes(word: u64) -> (u32, [u8; 3]) {
+    let [.., no, yes, lowest, _] = word.to_le_bytes();
+    (word as u32, [no, yes, lowest])
 }
 
 impl Checker {
@@ -167,6 +183,7 @@ impl Checker {
         self.slave_offsets()?;
         self.slave_ids()?;
         self.slaves()?;
+        self.figures_by_value()?;
         self.slave_by_registers()
     }
 
@@ -199,9 +216,14 @@ impl Checker {
             size_of::<vbus_sys::SlaveId>(),
             size_of::<vbus_sys::Slave>(),
             size_of::<vbus_sys::SlaveFound>(),
+            size_of::<vbus_sys::Figures>(),
+            size_of::<vbus_sys::SlaveKept>(),
+            size_of::<vbus_sys::FiguresChecked>(),
             size_of::<Entry>(),
         ];
-        let expected = [8, 24, 40, 16, 16, 24, 32, 16, 64, 40, 20, 12, 12, 12];
+        let expected = [
+            8, 24, 40, 16, 16, 24, 32, 16, 64, 40, 20, 12, 12, 3, 8, 8, 12,
+        ];
         self.expect("sizes on x86-64", sizes, expected)?;
         let offsets = [
             offset_of!(vbus_sys::Validation, verdict),
@@ -612,6 +634,17 @@ impl Checker {
         ];
         self.expect("offsets of Slave on x86-64", offsets, [0, 2, 4, 8])?;
         let offsets = [
+            offset_of!(vbus_sys::Figures, no),
+            offset_of!(vbus_sys::Figures, yes),
+            offset_of!(vbus_sys::Figures, lowest),
+            offset_of!(vbus_sys::SlaveKept, number),
+            offset_of!(vbus_sys::SlaveKept, figures),
+            offset_of!(vbus_sys::FiguresChecked, number),
+            offset_of!(vbus_sys::FiguresChecked, right),
+        ];
+        let expected = [0, 1, 2, 0, 4, 0, 4];
+        self.expect("offsets of figures on x86-64", offsets, expected)?;
+        let offsets = [
             offset_of!(Entry, address),
             offset_of!(Entry, owner),
             offset_of!(Entry, product),
@@ -666,8 +699,15 @@ impl Checker {
     fn slaves_of(&mut self, slave: Slave) -> Checked<()> {
         let Slave { address, owner, .. } = slave;
         let mut table = [Entry::new(Slave::default(), 0x5A); 32];
-        let entered = library::slave_enter(&mut table, slave);
-        self.expect("vbus_slave_enter", entered, 0)?;
+        let empty = Figures::default();
+        let kept = |number, figures| SlaveKept { number, figures };
+        let one = Figures {
+            no: u8::from(!owner),
+            yes: u8::from(owner),
+            lowest: 1,
+        };
+        let entered = library::slave_enter(&mut table, empty, slave);
+        self.expect("vbus_slave_enter", entered, kept(0, one))?;
         self.expect("vbus_slave_enter's entry", table[0].slave(), slave)?;
         let byte = u8::from(owner);
         self.expect("its owner as a byte", table[0].owner, byte)?;
@@ -696,19 +736,63 @@ impl Checker {
         };
         self.expect("its entry", table[0].slave(), elsewhere)?;
         self.expect("its owner as a byte", table[0].owner, byte)?;
-        let removed = library::slave_remove(&mut table, owner, address);
-        self.expect("vbus_slave_remove of the old address", removed, 17)?;
-        let removed = library::slave_remove(&mut table, !owner, 0x2F67);
-        self.expect("vbus_slave_remove by the neighbour", removed, 17)?;
-        let removed = library::slave_remove(&mut table, owner, 0x2F67);
-        self.expect("vbus_slave_remove", removed, 0)?;
+        let refused = kept(17, one);
+        let removed = library::slave_remove(&mut table, one, owner, address);
+        self.expect("vbus_slave_remove of the old address", removed, refused)?;
+        let removed = library::slave_remove(&mut table, one, !owner, 0x2F67);
+        self.expect("vbus_slave_remove by the neighbour", removed, refused)?;
+        let removed = library::slave_remove(&mut table, one, owner, 0x2F67);
+        self.expect("vbus_slave_remove", removed, kept(0, empty))?;
         self.expect("its entry", table[0].slave(), Slave::default())?;
         let free = Entry::new(Slave::default(), 0x5A);
         self.expect("all other entries", &table[1..], &[free; 31][..])
     }
 
-    /// The padding of an entry that is handed over may hold anything, and so may the upper half of a
-    /// register that has an owner, an address or an identifier.
+    /// Figures with another value in each field, kept and checked.
+    fn figures_by_value(&mut self) -> Checked<()> {
+        // Five of the one owner, three of the other, and a free entry behind two of them.
+        let mut table = [Entry::new(Slave::default(), 0x5A); 32];
+        for index in [0, 1, 3, 4, 5, 6, 7, 8] {
+            let slave = Slave {
+                address: 0x2100 + index as u16,
+                owner: index >= 6,
+                ..SLAVE
+            };
+            table[index] = Entry::new(slave, 0xA5);
+        }
+        let figures = |no, yes, lowest| Figures { no, yes, lowest };
+        let kept = |number, figures| SlaveKept { number, figures };
+        let checked = |number, right| FiguresChecked { number, right };
+        for (given, right) in [
+            (figures(5, 3, 2), true),
+            (figures(3, 5, 2), false),
+            (figures(2, 3, 5), false),
+            (figures(5, 2, 3), false),
+        ] {
+            let answer = library::slave_check_figures(&table, given);
+            self.expect("vbus_slave_check_figures", answer, checked(0, right))?;
+            let answer = library::slave_check_figures(&table[..31], given);
+            self.expect("vbus_slave_check_figures of 31", answer, checked(24, false))?;
+        }
+        let after = kept(0, figures(5, 4, 9));
+        let entered = library::slave_enter(&mut table, figures(5, 3, 2), SLAVE);
+        self.expect("vbus_slave_enter", entered, after)?;
+        let after = kept(0, figures(4, 4, 3));
+        let removed = library::slave_remove(&mut table, figures(5, 4, 9), false, 0x2103);
+        self.expect("vbus_slave_remove", removed, after)?;
+        let odd = figures(0x12, 0x34, 0xF6);
+        let refused = library::slave_enter(&mut table, odd, SLAVE);
+        self.expect("vbus_slave_enter, refused", refused, kept(15, odd))?;
+        let refused = library::slave_remove(&mut table, odd, true, 0x2103);
+        self.expect("vbus_slave_remove, refused", refused, kept(17, odd))?;
+        let refused = library::slave_enter(&mut table[..31], odd, SLAVE);
+        self.expect("vbus_slave_enter into 31", refused, kept(24, odd))?;
+        let refused = library::slave_remove(&mut table[..31], odd, true, 0x2345);
+        self.expect("vbus_slave_remove from 31", refused, kept(24, odd))
+    }
+
+    /// The padding of an entry that is handed over may hold anything, and so may the upper part of a
+    /// register that has figures, an owner, an address or an identifier.
     fn slave_by_registers(&mut self) -> Checked<()> {
         for owner in [false, true] {
             for padding in [0, 0x5A, 0x80, 0xFF] {
@@ -726,10 +810,33 @@ impl Checker {
         let first = address | owner << 16 | u64::from(padding) << 24;
         let first = first | u64::from(slave.product) << 32;
         let second = u64::from(slave.device) | upper;
+        let own = [1 - owner, owner].map(|held| held as u8);
+        let [none, one] = [[0; 2], own].map(|[no, yes]| {
+            let bytes = [
+                no,
+                yes,
+                no | yes,
+                padding,
+                padding,
+                padding,
+                padding,
+                padding,
+            ];
+            u64::from_le_bytes(bytes)
+        });
         // SAFETY: pointer and count are those of an array.
-        let number = unsafe { (calls.enter)(table.as_mut_ptr(), 32, first, second) };
-        self.expect("vbus_slave_enter with padding", number, 0)?;
+        let answer = unsafe { (calls.enter)(table.as_mut_ptr(), 32, none, first, second) };
+        let after = (0, [own[0], own[1], 1]);
+        self.expect("vbus_slave_enter with padding", kept_bytes(answer), after)?;
         self.expect("the entry entered", table[0], library::slave(slave))?;
+        // The flag is 0 or 1, as C's and Rust's bool must be.
+        for (figures, n, expected) in [(one, 32, [0, 1]), (none, 32, [0, 0]), (one, 31, [24, 0])] {
+            // SAFETY: as above; `n` is at most the array's length.
+            let answer = unsafe { (calls.check_figures)(table.as_ptr(), n, figures) };
+            let flag = answer.to_le_bytes()[4];
+            let answer = [answer as u32, flag.into()];
+            self.expect("vbus_slave_check_figures with padding", answer, expected)?;
+        }
         let [owner, from, to] = [owner, address, 0x2F67].map(|word| word | upper);
         // SAFETY: as above.
         let found = unsafe { (calls.find)(table.as_ptr(), 32, owner, from) };
@@ -741,8 +848,9 @@ impl Checker {
         self.expect("vbus_slave_change_address with padding", number, 0)?;
         self.expect("the address changed", table[0].address, 0x2F67)?;
         // SAFETY: as above.
-        let number = unsafe { (calls.remove)(table.as_mut_ptr(), 32, owner, to) };
-        self.expect("vbus_slave_remove with padding", number, 0)?;
+        let answer = unsafe { (calls.remove)(table.as_mut_ptr(), 32, one, owner, to) };
+        let after = (0, [0; 3]);
+        self.expect("vbus_slave_remove with padding", kept_bytes(answer), after)?;
         let free = vbus_sys::Slave::default();
         self.expect("the entry removed", table[0], free)
     }

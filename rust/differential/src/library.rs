@@ -1,7 +1,7 @@
 //! The archive's exports with the reference's types, so that answers can be compared.
 
 use reference::{Count, Fault, Found, Header, Part, Received, Septets, Validation, Written};
-use reference::{Slave, SlaveFound, SlaveId};
+use reference::{Figures, FiguresChecked, Slave, SlaveFound, SlaveId, SlaveKept};
 
 /// A receiver between two calls, but for its memory.
 pub use vbus_sys::Receiver;
@@ -232,10 +232,26 @@ pub fn slave(slave: Slave) -> vbus_sys::Slave {
     }
 }
 
-pub fn slave_enter(table: &mut [Entry], entry: Slave) -> u32 {
+pub fn figures(figures: Figures) -> vbus_sys::Figures {
+    vbus_sys::Figures {
+        no: figures.no,
+        yes: figures.yes,
+        lowest: figures.lowest,
+    }
+}
+
+fn kept(answer: vbus_sys::SlaveKept) -> SlaveKept {
+    let vbus_sys::SlaveKept { number, figures } = answer;
+    SlaveKept {
+        number,
+        figures: as_reference!(figures => Figures { no, yes, lowest }),
+    }
+}
+
+pub fn slave_enter(table: &mut [Entry], given: Figures, entry: Slave) -> SlaveKept {
     let (pointer, n) = (table.as_mut_ptr().cast(), table.len());
     // SAFETY: pointer and count are those of a slice of entries, whose owners are 0 or 1.
-    unsafe { vbus_sys::vbus_slave_enter(pointer, n, slave(entry)) }
+    kept(unsafe { vbus_sys::vbus_slave_enter(pointer, n, figures(given), slave(entry)) })
 }
 
 pub fn slave_find(table: &[Entry], owner: bool, address: u16) -> SlaveFound {
@@ -251,8 +267,32 @@ pub fn slave_change_address(table: &mut [Entry], owner: bool, from: u16, to: u16
     unsafe { vbus_sys::vbus_slave_change_address(pointer, n, owner, from, to) }
 }
 
-pub fn slave_remove(table: &mut [Entry], owner: bool, address: u16) -> u32 {
+pub fn slave_remove(table: &mut [Entry], given: Figures, owner: bool, address: u16) -> SlaveKept {
     let (pointer, n) = (table.as_mut_ptr().cast(), table.len());
     // SAFETY: as above.
-    unsafe { vbus_sys::vbus_slave_remove(pointer, n, owner, address) }
+    kept(unsafe { vbus_sys::vbus_slave_remove(pointer, n, figures(given), owner, address) })
+}
+
+pub fn slave_check_figures(table: &[Entry], given: Figures) -> FiguresChecked {
+    let (pointer, n) = (table.as_ptr().cast(), table.len());
+    // SAFETY: as above.
+    let answer = unsafe { vbus_sys::vbus_slave_check_figures(pointer, n, figures(given)) };
+    as_reference!(answer => FiguresChecked { number, right })
+}
+
+/// All calls on a table of so many entries, not 32, of which none is there: their numbers.
+pub fn without_table(n: usize, given: Figures, entry: Slave) -> [u32; 5] {
+    assert_ne!(n, vbus_sys::SLAVES);
+    let table = std::ptr::null_mut();
+    let Slave { address, owner, .. } = entry;
+    // SAFETY: nothing of a table is read or written whose count is another one.
+    unsafe {
+        [
+            vbus_sys::vbus_slave_enter(table, n, figures(given), slave(entry)).number,
+            vbus_sys::vbus_slave_find(table, n, owner, address).number,
+            vbus_sys::vbus_slave_change_address(table, n, owner, address, address),
+            vbus_sys::vbus_slave_remove(table, n, figures(given), owner, address).number,
+            vbus_sys::vbus_slave_check_figures(table, n, figures(given)).number,
+        ]
+    }
 }

@@ -9,6 +9,7 @@
 mod cases;
 mod check;
 mod faults;
+mod figures;
 mod layouts;
 mod library;
 mod naive;
@@ -170,8 +171,8 @@ fn compare(
 /// records, these had unused septet bits in none, one, some and all of their blocks, positions came to
 /// the limit, there were faults of every class, tables of slaves started from each class and came to
 /// each refusal, also where others applied behind it, two histories of an owner agreed, also with 16s in
-/// them, and parted, and an owner got its eighth entry beside a neighbour with 24, or the run has shown
-/// less than it claims.
+/// them, and parted, an owner got its eighth entry beside a neighbour with 24, and figures were false in
+/// each way, or the run has shown less than it claims.
 fn complete(checker: &mut Checker) -> Checked<()> {
     let errors = Error::ALL.iter().map(|error| error.number() as usize);
     for number in errors.chain([0]) {
@@ -190,6 +191,7 @@ fn complete(checker: &mut Checker) -> Checked<()> {
     let receivers = receiver::RECORDS.into_iter().chain(limits);
     let classes = naive.into_iter().chain(receivers).chain(cases::UNUSED);
     let tables = slaves::counted().chain(owners::counted());
+    let tables = tables.chain(figures::counted());
     for class in classes.chain(faults::counted()).chain(tables) {
         let some = checker.cases.get(class).is_some_and(|count| *count > 0);
         checker.holds(some, || format!("there are {class}"))?;
@@ -197,6 +199,7 @@ fn complete(checker: &mut Checker) -> Checked<()> {
     for (class, least) in [
         (slaves::CALLS, slaves::LEAST),
         (owners::CALLS, owners::LEAST),
+        (figures::CALLS, figures::LEAST),
     ] {
         let calls = checker.cases.get(class).copied().unwrap_or(0);
         checker.holds(calls >= least, || format!("{calls} are many {class}"))?;

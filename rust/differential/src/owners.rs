@@ -3,9 +3,9 @@
 
 use crate::check::{Checked, Checker};
 use crate::library::Entry;
-use crate::slaves::{operation, slaves_address, Habits, Operation, SLAVES};
+use crate::slaves::{counted_figures, operation, slaves_address, Habits, Operation, SLAVES};
 use crate::slaves::{ChangeAddress, Enter, Find, Remove};
-use reference::{Slave, SlaveFound};
+use reference::{Figures, Slave, SlaveFound};
 
 /// So many calls in histories every run makes, however short it is.
 pub const LEAST: u64 = 2_000_000;
@@ -28,7 +28,7 @@ pub fn counted() -> impl Iterator<Item = &'static str> {
 }
 
 /// The address of an owner's slave number `number`, below 127; its neighbour's has the same one.
-fn address(number: usize) -> u16 {
+pub fn address(number: usize) -> u16 {
     let group = number as u16 + 1;
     0x2000 | group >> 3 << 8 | (group & 7) << 4
 }
@@ -36,7 +36,7 @@ fn address(number: usize) -> u16 {
 // How many entries an owner may hold
 
 impl Checker {
-    fn numbered(&mut self, owner: bool, number: usize) -> Slave {
+    pub fn numbered(&mut self, owner: bool, number: usize) -> Slave {
         Slave {
             address: address(number),
             owner,
@@ -46,7 +46,7 @@ impl Checker {
 
     /// A table with so many entries of each owner, wherever they stand. What the free ones have beside
     /// their address may be anything, if they aren't zeroed.
-    fn shared(&mut self, yes: usize, no: usize, zeroed: bool) -> Vec<Slave> {
+    pub fn shared(&mut self, yes: usize, no: usize, zeroed: bool) -> Vec<Slave> {
         let yes = (0..yes).map(|number| (true, number));
         let no = (0..no).map(|number| (false, number));
         let mut left: Vec<Slave> = yes
@@ -196,9 +196,10 @@ struct Told {
     held: i64,
 }
 
-/// A table from the empty one on, and all calls on it.
+/// A table from the empty one on with its figures, and all calls on it.
 struct History {
     table: [Entry; SLAVES],
+    figures: Figures,
     calls: Vec<Operation>,
 }
 
@@ -206,8 +207,13 @@ impl History {
     fn new() -> History {
         History {
             table: [Entry::new(Slave::default(), 0); SLAVES],
+            figures: Figures::default(),
             calls: Vec::new(),
         }
+    }
+
+    fn slaves(&self) -> [Slave; SLAVES] {
+        self.table.map(Entry::slave)
     }
 
     fn has_free(&self) -> bool {
@@ -216,8 +222,10 @@ impl History {
 
     /// The addresses of an owner's entries.
     fn addresses_of(&self, owner: bool) -> Vec<u16> {
-        let slaves = self.table.iter().map(|entry| entry.slave());
-        let own = slaves.filter(|slave| slave.address != 0 && slave.owner == owner);
+        let own = self
+            .slaves()
+            .into_iter()
+            .filter(|slave| slave.address != 0 && slave.owner == owner);
         own.map(|slave| slave.address).collect()
     }
 }
@@ -231,14 +239,20 @@ struct Own<'a> {
 }
 
 impl Checker {
-    /// A call of the library alone.
-    fn go_on(&mut self, history: &mut History, operation: Operation) -> SlaveFound {
+    /// A call of the library alone. The figures stay those that counting gives.
+    fn go_on(&mut self, history: &mut History, operation: Operation) -> Checked<SlaveFound> {
         self.calls += 1;
         self.count(CALLS);
         history.calls.push(operation);
         let calls = &history.calls;
         self.note(|| format!("the last of {calls:X?}"));
-        operation.by_library(&mut history.table)
+        let answer = operation.by_library(&mut history.table, &mut history.figures);
+        let (figures, counted) = (history.figures, counted_figures(&history.slaves()));
+        let calls = &history.calls;
+        self.holds(figures == counted, || {
+            format!("{calls:X?} leave {counted:?}; they left {figures:?}")
+        })?;
+        Ok(answer)
     }
 
     /// An owner's calls, with its neighbour's between them, on an empty table. With fewer than eight
@@ -248,9 +262,9 @@ impl Checker {
         let mut told = Vec::new();
         let mut held = 0;
         for (index, call) in own.calls.iter().enumerate() {
-            self.neighbours_turn(&mut history, own, neighbour, index);
+            self.neighbours_turn(&mut history, own, neighbour, index)?;
             let full = held == 7 && history.addresses_of(!own.owner).len() == 24;
-            let answer = self.go_on(&mut history, *call);
+            let answer = self.go_on(&mut history, *call)?;
             let calls = &history.calls;
             self.holds(answer.number != 16 || held >= 8, || {
                 format!("{held} entries are too few for 16: {calls:X?}")
@@ -274,9 +288,9 @@ impl Checker {
         own: &Own,
         neighbour: Neighbour,
         index: usize,
-    ) {
+    ) -> Checked<()> {
         let filling = match neighbour {
-            Idle => return,
+            Idle => return Ok(()),
             Busy | Following(_) => false,
             Greedy => true,
         };
@@ -287,15 +301,16 @@ impl Checker {
         };
         for _ in 0..self.rng.below(4) {
             let call = operation(&mut self.rng, own.addresses, &habits);
-            self.go_on(history, call);
+            self.go_on(history, call)?;
         }
         if let (Following(told), Enter(_)) = (neighbour, own.calls[index]) {
-            self.follow(history, own, told[index].answer.number == 16);
+            self.follow(history, own, told[index].answer.number == 16)?;
         }
+        Ok(())
     }
 
     /// Leaves the owner no entry, or one at least.
-    fn follow(&mut self, history: &mut History, own: &Own, full: bool) {
+    fn follow(&mut self, history: &mut History, own: &Own, full: bool) -> Checked<()> {
         let neighbour = !own.owner;
         if full {
             // Those that it has already are refused as 15.
@@ -303,15 +318,16 @@ impl Checker {
             while history.has_free() {
                 let Some(number) = numbers.next() else { break };
                 let slave = self.numbered(neighbour, number);
-                self.go_on(history, Enter(slave));
+                self.go_on(history, Enter(slave))?;
             }
         } else if !history.has_free() {
             let addresses = history.addresses_of(neighbour);
             if !addresses.is_empty() {
                 let address = self.rng.pick(&addresses);
-                self.go_on(history, Remove(neighbour, address));
+                self.go_on(history, Remove(neighbour, address))?;
             }
         }
+        Ok(())
     }
 
     /// The same calls of an owner with other calls of its neighbour: as long as its 16s are the same,

@@ -1,16 +1,17 @@
-//! Tables of slaves: runs of calls on tables of any length that hold anything.
+//! Tables of slaves: runs of calls on tables of any length that hold anything, with the figures that
+//! counting gives.
 
 use crate::check::{Checked, Checker};
 use crate::library::{self, Entry};
 use crate::rng::Rng;
-use reference::{Slave, SlaveFound};
+use reference::{Figures, Slave, SlaveFound, SlaveKept};
 use vbus::{Identifiers, SlaveTable};
 
 /// How many entries a table has.
 pub const SLAVES: usize = 32;
 
 /// Lengths that are refused.
-const WRONG_LENGTHS: [usize; 5] = [0, 1, 31, 33, 64];
+pub const WRONG_LENGTHS: [usize; 5] = [0, 1, 31, 33, 64];
 
 /// So many calls on tables every run makes, however short it is.
 pub const LEAST: u64 = 1_500_000;
@@ -19,7 +20,7 @@ pub const LEAST: u64 = 1_500_000;
 pub const CALLS: &str = "slaves: calls";
 
 /// Kinds of calls. Where one stays 0 the run has shown less than it claims.
-const KINDS: [&str; 15] = [
+const KINDS: [&str; 20] = [
     SAME_ADDRESS,
     TWICE,
     WIDE,
@@ -35,6 +36,11 @@ const KINDS: [&str; 15] = [
     ABOVE_SHARE,
     NONE_FREE,
     FULL_AND_USED,
+    NEXT_BEHIND,
+    NONE_LEFT,
+    LOWERED,
+    LOWERED_FROM_NONE,
+    LOWEST_STAYS,
 ];
 /// Gave a slave the address that it has.
 const SAME_ADDRESS: &str = "slaves: same address";
@@ -62,16 +68,29 @@ const SHARE_USED: &str = "slaves: 16 by 24";
 const ABOVE_SHARE: &str = "slaves: 16 above 24";
 const NONE_FREE: &str = "slaves: 16, no free";
 const FULL_AND_USED: &str = "slaves: 16 by both";
+/// Entered where the next free entry stands behind others, or there is none.
+const NEXT_BEHIND: &str = "slaves: next behind";
+const NONE_LEFT: &str = "slaves: none left";
+/// Removed from below the lowest free entry, or where none was free; removed from behind it.
+const LOWERED: &str = "slaves: lowered";
+const LOWERED_FROM_NONE: &str = "slaves: first free";
+const LOWEST_STAYS: &str = "slaves: lowest stays";
 
 /// Each function's refusals in their order. Each must be given, also where each of those behind it applies
 /// too, or the run has shown less than it claims.
-const ORDERS: [(&str, &[u32]); 6] = [
+const ORDERS: [(&str, &[u32]); 11] = [
     ("read_slave_id", &[18]),
     ("write_slave_id", &[18, 2, 5]),
     ("enter", &[24, 14, 18, 15, 16]),
     ("find", &[24, 17]),
     ("change_address", &[24, 14, 17, 15]),
     ("remove", &[24, 17]),
+    ("check_figures", &[24]),
+    // With any figures, where 16 is given by them.
+    ("enter, any", &[24, 14, 18, 15, 16]),
+    ("find, any", &[24, 17]),
+    ("change, any", &[24, 14, 17, 15]),
+    ("remove, any", &[24, 17]),
 ];
 
 /// All classes that are counted.
@@ -104,7 +123,7 @@ pub enum Operation {
 
 pub use Operation::{ChangeAddress, Enter, Find, Remove};
 
-/// The answer of a function that gives the number alone.
+/// The answer of a function that gives no identifiers.
 fn alone(number: u32) -> SlaveFound {
     SlaveFound {
         number,
@@ -112,8 +131,13 @@ fn alone(number: u32) -> SlaveFound {
     }
 }
 
+fn keep(figures: &mut Figures, answer: SlaveKept) -> SlaveFound {
+    *figures = answer.figures;
+    alone(answer.number)
+}
+
 impl Operation {
-    fn name(self) -> &'static str {
+    pub fn name(self) -> &'static str {
         match self {
             Enter(_) => "enter",
             Find(..) => "find",
@@ -123,32 +147,50 @@ impl Operation {
     }
 
     /// Whose call it is.
-    fn owner(self) -> bool {
+    pub fn owner(self) -> bool {
         match self {
             Enter(slave) => slave.owner,
             Find(owner, _) | ChangeAddress(owner, ..) | Remove(owner, _) => owner,
         }
     }
 
-    pub fn by_library(self, table: &mut [Entry]) -> SlaveFound {
+    /// The figures are replaced by those that come back, if the call has any.
+    pub fn by_library(self, table: &mut [Entry], figures: &mut Figures) -> SlaveFound {
         match self {
-            Enter(slave) => alone(library::slave_enter(table, slave)),
+            Enter(slave) => keep(figures, library::slave_enter(table, *figures, slave)),
             Find(owner, address) => library::slave_find(table, owner, address),
             ChangeAddress(owner, from, to) => {
                 alone(library::slave_change_address(table, owner, from, to))
             }
-            Remove(owner, address) => alone(library::slave_remove(table, owner, address)),
+            Remove(owner, address) => keep(
+                figures,
+                library::slave_remove(table, *figures, owner, address),
+            ),
         }
     }
 
-    pub fn by_reference(self, table: &mut [Slave]) -> SlaveFound {
+    pub fn by_reference(self, table: &mut [Slave], figures: &mut Figures) -> SlaveFound {
         match self {
-            Enter(slave) => alone(reference::slave_enter(table, slave)),
+            Enter(slave) => keep(figures, reference::slave_enter(table, *figures, slave)),
             Find(owner, address) => reference::slave_find(table, owner, address),
             ChangeAddress(owner, from, to) => {
                 alone(reference::slave_change_address(table, owner, from, to))
             }
-            Remove(owner, address) => alone(reference::slave_remove(table, owner, address)),
+            Remove(owner, address) => keep(
+                figures,
+                reference::slave_remove(table, *figures, owner, address),
+            ),
+        }
+    }
+
+    /// By a reference that counts in each call, and keeps no figures.
+    fn by_counting(self, table: &mut [Slave]) -> SlaveFound {
+        match self {
+            Enter(slave) => alone(reference::slave_enter_counting(table, slave)),
+            Remove(owner, address) => {
+                alone(reference::slave_remove_counting(table, owner, address))
+            }
+            Find(..) | ChangeAddress(..) => self.by_reference(table, &mut Figures::default()),
         }
     }
 
@@ -171,7 +213,7 @@ impl Operation {
     }
 }
 
-fn wrapper(slave: Slave) -> vbus::Slave {
+pub fn wrapper(slave: Slave) -> vbus::Slave {
     vbus::Slave {
         address: slave.address,
         owner: slave.owner,
@@ -180,17 +222,34 @@ fn wrapper(slave: Slave) -> vbus::Slave {
     }
 }
 
+pub fn wrapped_figures(figures: Figures) -> vbus::Figures {
+    vbus::Figures {
+        no: figures.no,
+        yes: figures.yes,
+        lowest: figures.lowest,
+    }
+}
+
 /// Entries on both sides of a table that no call may change.
 const GUARD: usize = 2;
 
-/// A table as it is lent to the library, with guards around it. What stands between the fields of its
-/// entries is known too.
+/// A table as it is lent to the library, with guards around it, and its figures. What stands between the
+/// fields of its entries is known too.
+#[derive(Clone)]
 pub struct Table {
     entries: Vec<Entry>,
+    pub figures: Figures,
 }
 
 impl Table {
+    /// With the figures that counting gives. A table of another length has none: what is handed over
+    /// with it may be anything.
     pub fn new(rng: &mut Rng, slaves: &[Slave]) -> Table {
+        let figures = if slaves.len() == SLAVES || rng.once_in(2) {
+            counted_figures(slaves)
+        } else {
+            any_figures(rng)
+        };
         let guard = Slave {
             address: 0x2010,
             owner: rng.once_in(2),
@@ -200,7 +259,7 @@ impl Table {
         let guards = [guard; GUARD];
         let around = guards.iter().chain(slaves).chain(&guards);
         let entries = around.map(|slave| Entry::new(*slave, rng.byte())).collect();
-        Table { entries }
+        Table { entries, figures }
     }
 
     pub fn lent(&mut self) -> &mut [Entry] {
@@ -214,9 +273,26 @@ impl Table {
         entries.map(|entry| entry.slave()).collect()
     }
 
-    /// Every owner is a bool.
-    fn is_sound(&self) -> bool {
-        self.entries.iter().all(|entry| entry.owner <= 1)
+    /// The table and its guards, with all that stands between the fields.
+    pub fn bytes(&self) -> &[Entry] {
+        &self.entries
+    }
+
+    /// Every owner is a bool, and all is as it was but the entry with that index, if one is named: also
+    /// the guards, and what stands between the fields of the other entries.
+    pub fn kept_all_but(&self, named: Option<usize>, before: &[Entry]) -> bool {
+        let named = named.map(|index| GUARD + index);
+        let mut entries = before.iter().zip(&self.entries).enumerate();
+        entries
+            .all(|(i, (before, after))| after.owner <= 1 && (Some(i) == named || before == after))
+    }
+}
+
+pub fn any_figures(rng: &mut Rng) -> Figures {
+    Figures {
+        no: rng.byte(),
+        yes: rng.byte(),
+        lowest: rng.byte(),
     }
 }
 
@@ -383,12 +459,21 @@ fn lowest(owner: bool, address: u16, table: &[Slave]) -> Option<usize> {
 }
 
 /// The lowest free entry.
-fn lowest_free(table: &[Slave]) -> Option<usize> {
+pub fn lowest_free(table: &[Slave]) -> Option<usize> {
     table.iter().position(|slave| slave.address == 0)
 }
 
+/// What counting a table gives.
+pub fn counted_figures(table: &[Slave]) -> Figures {
+    Figures {
+        no: entries_of(false, table).count() as u8,
+        yes: entries_of(true, table).count() as u8,
+        lowest: lowest_free(table).unwrap_or(SLAVES) as u8,
+    }
+}
+
 /// The refusals that apply to a call, in their order.
-fn refusals(operation: Operation, table: &[Slave]) -> Vec<u32> {
+pub fn refusals(operation: Operation, table: &[Slave]) -> Vec<u32> {
     let owner = operation.owner();
     let held = entries_of(owner, table).count();
     let there = |address| entries_of(owner, table).any(|(_, slave)| slave.address == address);
@@ -419,7 +504,7 @@ fn refusals(operation: Operation, table: &[Slave]) -> Vec<u32> {
 }
 
 /// The entry that a call which isn't refused names, and what stands there afterwards.
-fn named(operation: Operation, table: &[Slave]) -> Option<(usize, Slave)> {
+pub fn named(operation: Operation, table: &[Slave]) -> Option<(usize, Slave)> {
     match operation {
         Enter(slave) => Some((lowest_free(table)?, slave)),
         Find(..) => None,
@@ -436,7 +521,7 @@ fn named(operation: Operation, table: &[Slave]) -> Option<(usize, Slave)> {
 }
 
 /// The identifiers that a call gives which isn't refused.
-fn told(operation: Operation, table: &[Slave]) -> (u32, u32) {
+pub fn told(operation: Operation, table: &[Slave]) -> (u32, u32) {
     let found = match operation {
         Find(owner, address) => lowest(owner, address, table),
         _ => None,
@@ -461,7 +546,11 @@ fn kinds(operation: Operation, number: u32, table: &[Slave]) -> Vec<&'static str
             kinds.push((CHANGED_BOTH, number == 0 && from != to && neighbours));
             kinds
         }
-        Remove(owner, address) => kinds_of_address(owner, address, number, table),
+        Remove(owner, address) => {
+            let mut kinds = kinds_of_address(owner, address, number, table);
+            kinds.extend(removing_kinds(owner, address, number, table));
+            kinds
+        }
     };
     let kinds = kinds.into_iter().filter(|(_, is)| *is);
     kinds.map(|(kind, _)| kind).collect()
@@ -488,14 +577,42 @@ fn kinds_of_address(
     ]
 }
 
+fn removing_kinds(
+    owner: bool,
+    address: u16,
+    number: u32,
+    table: &[Slave],
+) -> [(&'static str, bool); 3] {
+    let removed = if number == 0 {
+        lowest(owner, address, table)
+    } else {
+        None
+    };
+    let free = lowest_free(table);
+    [
+        (
+            LOWERED,
+            free.is_some() && removed.is_some() && removed < free,
+        ),
+        (LOWERED_FROM_NONE, free.is_none() && removed.is_some()),
+        (LOWEST_STAYS, free.is_some() && removed > free),
+    ]
+}
+
 fn entering_kinds(slave: Slave, number: u32, table: &[Slave]) -> Vec<(&'static str, bool)> {
     let Slave { address, owner, .. } = slave;
     let held = entries_of(owner, table).count();
     let naming = table.iter().filter(|slave| slave.owner == owner).count();
     let free = lowest_free(table);
     let taken = free.is_some_and(|index| table[index].owner != owner);
+    let next = free.and_then(|index| lowest_free(&table[index + 1..]));
     let (entered, refused) = (number == 0, number == 16);
     vec![
+        (
+            NEXT_BEHIND,
+            entered && next.is_some_and(|behind| behind > 0),
+        ),
+        (NONE_LEFT, entered && next.is_none()),
         (
             ENTERED_BOTH,
             entered && lowest(!owner, address, table).is_some(),
@@ -511,13 +628,17 @@ fn entering_kinds(slave: Slave, number: u32, table: &[Slave]) -> Vec<(&'static s
 }
 
 impl Checker {
-    /// A call on a table, and what must hold of it by the rules.
+    /// A call on a table with the figures that counting gives, and what must hold of it by the rules.
     fn by_the_rules(&mut self, table: &mut Table, operation: Operation) -> Checked<SlaveFound> {
         let before = table.slaves();
         let entries = table.entries.clone();
+        let figures = table.figures;
         let (answer, after) = self.on_table(table, operation)?;
         self.count(CALLS);
-        let what = || format!("{operation:X?} on {} entries {before:X?}", before.len());
+        let what = || {
+            let n = before.len();
+            format!("{operation:X?} with {figures:?} on {n} entries {before:X?}")
+        };
         let refusals = refusals(operation, &before);
         self.first_given(operation.name(), answer.number, &refusals, what)?;
         for kind in kinds(operation, answer.number, &before) {
@@ -530,25 +651,46 @@ impl Checker {
             identifiers = told(operation, &before);
             if let Some((index, slave)) = named(operation, &before) {
                 expected[index] = slave;
-                changed = Some(GUARD + index);
+                changed = Some(index);
             }
         }
-        let same =
-            after == expected && table.is_sound() && (answer.product, answer.device) == identifiers;
+        let same = after == expected && (answer.product, answer.device) == identifiers;
         self.holds(same, || {
             let what = what();
             format!("{what} tells {identifiers:X?} and leaves {expected:X?}")
         })?;
-        // The guards, and what stands between the fields of the entries that the call doesn't name.
-        let others = entries.iter().zip(&table.entries).enumerate();
-        let kept = others
-            .filter(|(i, _)| Some(*i) != changed)
-            .all(|(_, (before, after))| before == after);
-        self.holds(kept, || {
+        self.holds(table.kept_all_but(changed, &entries), || {
             let (what, after) = (what(), &table.entries);
             format!("{what} leaves all other bytes of {entries:X?}; they are {after:X?}")
         })?;
+        let mut counted = before.clone();
+        let by_counting = (operation.by_counting(&mut counted), counted);
+        self.holds(by_counting == (answer, after), || {
+            let what = what();
+            format!("{what} gives what counting gives, {by_counting:X?}")
+        })?;
+        self.figures_kept(table, figures, what)?;
         Ok(answer)
+    }
+
+    /// A call that was handed true figures leaves true ones. With a table of another length, which has
+    /// none, those handed over come back.
+    fn figures_kept(
+        &mut self,
+        table: &Table,
+        before: Figures,
+        what: impl Fn() -> String,
+    ) -> Checked<()> {
+        let after = table.slaves();
+        let expected = if after.len() == SLAVES {
+            counted_figures(&after)
+        } else {
+            before
+        };
+        self.holds(table.figures == expected, || {
+            let (what, figures) = (what(), table.figures);
+            format!("{what} leaves {expected:?}; it left {figures:?}")
+        })
     }
 
     /// The number is that of the first refusal that applies, 0 if none does. Counts it, alone and before
@@ -593,37 +735,55 @@ impl Checker {
             let entries: [vbus::Slave; SLAVES] = wrapped.clone().into();
             let after: Vec<vbus::Slave> = table.slaves().into_iter().map(wrapper).collect();
             let used = after.iter().copied().filter(|slave| slave.address != 0);
-            let same = given == answer && entries[..] == after && wrapped.slaves().eq(used);
+            let figures = wrapped.figures();
+            let same = given == answer
+                && entries[..] == after
+                && wrapped.slaves().eq(used)
+                && figures == wrapped_figures(table.figures)
+                && SlaveTable::from(entries) == *wrapped;
             self.holds(same, || {
+                let expected = table.figures;
                 format!(
-                    "vbus::SlaveTable gives {answer:X?} and {after:X?} for {operation:X?}; \
-                     it gave {given:X?} and {entries:X?}"
+                    "vbus::SlaveTable gives {answer:X?}, {after:X?} and {expected:?} for \
+                     {operation:X?}; it gave {given:X?}, {entries:X?} and {figures:?}"
                 )
             })?;
         }
         Ok(numbers)
     }
 
-    /// A run from one of the starts, mostly on a table of the right length.
-    pub fn random_slaves(&mut self) -> Checked<()> {
+    /// A table of that length from one of the starts, and addresses for a run on it.
+    pub fn start(&mut self, length: usize) -> (Vec<Slave>, Vec<u16>) {
         let rng = &mut self.rng;
         let (class, start) = rng.pick(&STARTS);
-        let (length, calls) = match rng.below(8) {
-            0 => (rng.pick(&WRONG_LENGTHS), 10),
-            _ => (SLAVES, 200),
-        };
         let addresses = addresses(rng);
         let mut slaves: Vec<Slave> = (0..length).map(|i| start(rng, &addresses, i)).collect();
         share_out(rng, &mut slaves);
+        self.count(class);
+        (slaves, addresses)
+    }
+
+    /// Calls for a run, of both owners.
+    pub fn operations(&mut self, addresses: &[u16], calls: usize) -> Vec<Operation> {
+        let rng = &mut self.rng;
         let habits = Habits {
             filling: rng.once_in(2),
             owner: rng.once_in(2),
             other: rng.pick(&[2, 2, 8]),
         };
-        let operations: Vec<Operation> = (0..calls)
-            .map(|_| operation(rng, &addresses, &habits))
-            .collect();
-        self.count(class);
+        (0..calls)
+            .map(|_| operation(rng, addresses, &habits))
+            .collect()
+    }
+
+    /// A run from one of the starts, mostly on a table of the right length.
+    pub fn random_slaves(&mut self) -> Checked<()> {
+        let (length, calls) = match self.rng.below(8) {
+            0 => (self.rng.pick(&WRONG_LENGTHS), 10),
+            _ => (SLAVES, 200),
+        };
+        let (slaves, addresses) = self.start(length);
+        let operations = self.operations(&addresses, calls);
         self.run_on(&slaves, operations)?;
         Ok(())
     }
