@@ -93,9 +93,13 @@ pub fn receive_in_memory(
 }
 
 #[inline(always)]
-pub fn slave_enter(table: &mut [vbus_sys::Slave], slave: vbus_sys::Slave) -> u32 {
+pub fn slave_enter(
+    table: &mut [vbus_sys::Slave],
+    figures: vbus_sys::Figures,
+    slave: vbus_sys::Slave,
+) -> vbus_sys::SlaveKept {
     // SAFETY: pointer and count are those of a slice.
-    unsafe { vbus_sys::vbus_slave_enter(table.as_mut_ptr(), table.len(), slave) }
+    unsafe { vbus_sys::vbus_slave_enter(table.as_mut_ptr(), table.len(), figures, slave) }
 }
 
 #[inline(always)]
@@ -116,7 +120,22 @@ pub fn slave_change_address(table: &mut [vbus_sys::Slave], owner: bool, from: u1
 }
 
 #[inline(always)]
-pub fn slave_remove(table: &mut [vbus_sys::Slave], owner: bool, address: u16) -> u32 {
+pub fn slave_remove(
+    table: &mut [vbus_sys::Slave],
+    figures: vbus_sys::Figures,
+    owner: bool,
+    address: u16,
+) -> vbus_sys::SlaveKept {
+    let (pointer, n) = (table.as_mut_ptr(), table.len());
     // SAFETY: pointer and count are those of a slice.
-    unsafe { vbus_sys::vbus_slave_remove(table.as_mut_ptr(), table.len(), owner, address) }
+    unsafe { vbus_sys::vbus_slave_remove(pointer, n, figures, owner, address) }
+}
+
+#[inline(always)]
+pub fn slave_check_figures(
+    table: &mut [vbus_sys::Slave],
+    figures: vbus_sys::Figures,
+) -> vbus_sys::FiguresChecked {
+    // SAFETY: pointer and count are those of a slice.
+    unsafe { vbus_sys::vbus_slave_check_figures(table.as_ptr(), table.len(), figures) }
 }

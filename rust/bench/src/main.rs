@@ -7,7 +7,8 @@
 //! A second table has the library's time for recordings in which all unused septet bits are set
 //! against its time for the same recordings without. A third has its time for the faults of hostile
 //! recordings against its time for as many bytes in recordings of an eighth of the size. A fourth has
-//! calls on a table of slaves, again against the reference.
+//! calls on a table of slaves, again against the reference, and those that keep figures also against a
+//! reference that counts in each call.
 
 mod library;
 mod recordings;
@@ -72,8 +73,17 @@ fn ref_receive(
 }
 
 #[inline(never)]
-fn ref_slave_enter(table: &mut [reference::Slave], slave: reference::Slave) -> u32 {
-    reference::slave_enter(table, slave)
+fn ref_slave_enter(
+    table: &mut [reference::Slave],
+    figures: reference::Figures,
+    slave: reference::Slave,
+) -> reference::SlaveKept {
+    reference::slave_enter(table, figures, slave)
+}
+
+#[inline(never)]
+fn ref_slave_enter_counting(table: &mut [reference::Slave], slave: reference::Slave) -> u32 {
+    reference::slave_enter_counting(table, slave)
 }
 
 #[inline(never)]
@@ -96,8 +106,26 @@ fn ref_slave_change_address(
 }
 
 #[inline(never)]
-fn ref_slave_remove(table: &mut [reference::Slave], owner: bool, address: u16) -> u32 {
-    reference::slave_remove(table, owner, address)
+fn ref_slave_remove(
+    table: &mut [reference::Slave],
+    figures: reference::Figures,
+    owner: bool,
+    address: u16,
+) -> reference::SlaveKept {
+    reference::slave_remove(table, figures, owner, address)
+}
+
+#[inline(never)]
+fn ref_slave_remove_counting(table: &mut [reference::Slave], owner: bool, address: u16) -> u32 {
+    reference::slave_remove_counting(table, owner, address)
+}
+
+#[inline(never)]
+fn ref_slave_check_figures(
+    table: &mut [reference::Slave],
+    figures: reference::Figures,
+) -> reference::FiguresChecked {
+    reference::slave_check_figures(table, figures)
 }
 
 // What is timed. Each answers with a number that depends on every answer it got.
@@ -187,24 +215,42 @@ macro_rules! receive_all {
     }};
 }
 
-/// A call on a table whose last entry is free, and 32 slaves, all but the last of them in it: 16 and 15
-/// of the two owners. The last of those and the one that isn't there are of the same owner. The call puts
-/// right before what it changed the last time.
+/// A call on a table whose last entry is free, with its figures, and 32 slaves, all but the last of them
+/// in it: 16 and 15 of the two owners. The last of those and the one that isn't there are of the same
+/// owner. The call puts right before what it changed the last time.
 macro_rules! on_table {
-    ($slave:ty, |$table:ident, $slaves:ident| $call:expr) => {{
-        type Slave = $slave;
+    ($side:ident, |$table:ident, $figures:ident, $slaves:ident| $call:expr) => {{
+        use $side::{Figures, Slave};
         let slaves: [Slave; 32] = std::array::from_fn(|i| Slave {
             address: 0x2010 + 0x100 * (i as u16 / 7) + 0x10 * (i as u16 % 7),
             owner: i >= 16,
             product: 888_888,
             device: 17 * 131_072 + i as u32,
         });
+        let figures = Figures {
+            no: 16,
+            yes: 15,
+            lowest: 31,
+        };
         let mut table = slaves;
         table[31].address = 0;
         move || {
             let ($table, $slaves) = (black_box(&mut table), black_box(&slaves));
+            let $figures = black_box(figures);
             $call
         }
+    }};
+}
+
+/// A number that depends on all that a call answers which keeps figures.
+macro_rules! kept {
+    ($answer:expr) => {{
+        let answer = $answer;
+        let figures = answer.figures;
+        let numbers = [figures.no, figures.yes, figures.lowest].map(usize::from);
+        numbers
+            .iter()
+            .fold(answer.number as usize, |all, number| all << 8 | number)
     }};
 }
 
@@ -523,52 +569,93 @@ fn table_row(name: &str, mut library: impl FnMut() -> usize, mut reference: impl
 fn slaves() {
     println!("| Slaves | min | median | max | ns a call | reference |");
     println!("|---|---|---|---|---|---|");
-    table_row(
-        "enter, 31 slaves",
-        on_table!(vbus_sys::Slave, |table, slaves| {
-            table[31].address = 0;
-            lib::slave_enter(table, slaves[31]) as usize
-        }),
-        on_table!(reference::Slave, |table, slaves| {
-            table[31].address = 0;
-            ref_slave_enter(table, slaves[31]) as usize
-        }),
-    );
+    entering();
     table_row(
         "find the last of 31 slaves",
-        on_table!(vbus_sys::Slave, |table, slaves| {
+        on_table!(vbus_sys, |table, _figures, slaves| {
             let Slave { owner, address, .. } = slaves[30];
             lib::slave_find(table, owner, address).device as usize
         }),
-        on_table!(reference::Slave, |table, slaves| {
+        on_table!(reference, |table, _figures, slaves| {
             let Slave { owner, address, .. } = slaves[30];
             ref_slave_find(table, owner, address).device as usize
         }),
     );
     table_row(
         "change_address of the last of 31 slaves",
-        on_table!(vbus_sys::Slave, |table, slaves| {
+        on_table!(vbus_sys, |table, _figures, slaves| {
             table[30].address = slaves[30].address;
             let Slave { owner, address, .. } = slaves[30];
             lib::slave_change_address(table, owner, address, slaves[31].address) as usize
         }),
-        on_table!(reference::Slave, |table, slaves| {
+        on_table!(reference, |table, _figures, slaves| {
             table[30].address = slaves[30].address;
             let Slave { owner, address, .. } = slaves[30];
             ref_slave_change_address(table, owner, address, slaves[31].address) as usize
         }),
     );
+    removing();
+    table_row(
+        "check_figures, 31 slaves",
+        on_table!(vbus_sys, |table, figures, _slaves| {
+            lib::slave_check_figures(table, figures).right as usize
+        }),
+        on_table!(reference, |table, figures, _slaves| {
+            ref_slave_check_figures(table, figures).right as usize
+        }),
+    );
+}
+
+fn entering() {
+    table_row(
+        "enter, 31 slaves",
+        on_table!(vbus_sys, |table, figures, slaves| {
+            table[31].address = 0;
+            kept!(lib::slave_enter(table, figures, slaves[31]))
+        }),
+        on_table!(reference, |table, figures, slaves| {
+            table[31].address = 0;
+            kept!(ref_slave_enter(table, figures, slaves[31]))
+        }),
+    );
+    table_row(
+        "enter, 31 slaves / counting",
+        on_table!(vbus_sys, |table, figures, slaves| {
+            table[31].address = 0;
+            lib::slave_enter(table, figures, slaves[31]).number as usize
+        }),
+        on_table!(reference, |table, _figures, slaves| {
+            table[31].address = 0;
+            ref_slave_enter_counting(table, slaves[31]) as usize
+        }),
+    );
+}
+
+fn removing() {
     table_row(
         "remove the last of 31 slaves",
-        on_table!(vbus_sys::Slave, |table, slaves| {
+        on_table!(vbus_sys, |table, figures, slaves| {
             table[30] = slaves[30];
             let Slave { owner, address, .. } = slaves[30];
-            lib::slave_remove(table, owner, address) as usize
+            kept!(lib::slave_remove(table, figures, owner, address))
         }),
-        on_table!(reference::Slave, |table, slaves| {
+        on_table!(reference, |table, figures, slaves| {
             table[30] = slaves[30];
             let Slave { owner, address, .. } = slaves[30];
-            ref_slave_remove(table, owner, address) as usize
+            kept!(ref_slave_remove(table, figures, owner, address))
+        }),
+    );
+    table_row(
+        "remove the last of 31 slaves / counting",
+        on_table!(vbus_sys, |table, figures, slaves| {
+            table[30] = slaves[30];
+            let Slave { owner, address, .. } = slaves[30];
+            lib::slave_remove(table, figures, owner, address).number as usize
+        }),
+        on_table!(reference, |table, _figures, slaves| {
+            table[30] = slaves[30];
+            let Slave { owner, address, .. } = slaves[30];
+            ref_slave_remove_counting(table, owner, address) as usize
         }),
     );
 }

@@ -165,11 +165,11 @@ impl Call<'_> {
     }
 
     /// The figures handed over are those of the table.
-    fn from_true(&self) -> bool {
+    fn was_true(&self) -> bool {
         self.slaves.len() == SLAVES && self.before.figures == counted_figures(&self.slaves)
     }
 
-    fn to_true(&self) -> bool {
+    fn is_true(&self) -> bool {
         self.left.len() == SLAVES && self.after.figures == counted_figures(&self.left)
     }
 
@@ -247,7 +247,7 @@ impl Call<'_> {
         let entered = matches!(self.operation, Enter(_)) && self.answer.number == 0;
         let lowest = !entered || self.changed().first().copied() == lowest_free(&self.slaves);
         let number = self.answer.number == self.by_counting();
-        !self.from_true() || number && lowest && self.to_true()
+        !self.was_true() || number && lowest && self.is_true()
     }
 }
 
@@ -322,7 +322,7 @@ impl Call<'_> {
 
     /// The kinds that it is of, if its figures were false.
     fn kinds(&self) -> Vec<&'static str> {
-        if self.slaves.len() != SLAVES || self.from_true() {
+        if self.slaves.len() != SLAVES || self.was_true() {
             return Vec::new();
         }
         let (number, counted) = (self.answer.number, self.by_counting());
@@ -349,8 +349,8 @@ impl Call<'_> {
             ),
             (ZERO_STAYS, removed && self.held() == 0),
             (NOT_RAISED, removed && index > Some(low)),
-            (BECAME_TRUE, changed && self.to_true()),
-            (STAYED_FALSE, changed && !self.to_true()),
+            (BECAME_TRUE, changed && self.is_true()),
+            (STAYED_FALSE, changed && !self.is_true()),
         ];
         let kinds = kinds.into_iter().filter(|(_, is)| *is);
         kinds.map(|(kind, _)| kind).collect()
