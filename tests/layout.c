@@ -102,6 +102,15 @@ static int slave_is(vbus_slave a, uint16_t address, bool owner, uint32_t product
     memcpy(&byte, &a.owner, 1);
     return a.address == address && byte == (owner ? 1 : 0) && a.product == product && a.device == device;
 }
+static int figures_are(vbus_figures a, unsigned no, unsigned yes, unsigned lowest) {
+    return a.no == no && a.yes == yes && a.lowest == lowest;
+}
+static int kept_is(vbus_slave_kept a, uint32_t number, unsigned no, unsigned yes, unsigned lowest) {
+    return a.number == number && figures_are(a.figures, no, yes, lowest);
+}
+static int checked_is(vbus_figures_checked a, uint32_t number, int right) {
+    return a.number == number && (int)a.right == right;
+}
 static int slave_found_is(vbus_slave_found a, uint32_t number, uint32_t product, uint32_t device) {
     return a.number == number && a.product == product && a.device == device;
 }
@@ -183,6 +192,11 @@ static void layouts(void) {
           offsetof(vbus_slave, product) == 4 && offsetof(vbus_slave, device) == 8);
     CHECK(sizeof(vbus_slave_found) == 12 && offsetof(vbus_slave_found, number) == 0 &&
           offsetof(vbus_slave_found, product) == 4 && offsetof(vbus_slave_found, device) == 8);
+    CHECK(sizeof(vbus_figures) == 3 && offsetof(vbus_figures, no) == 0 && offsetof(vbus_figures, yes) == 1 &&
+          offsetof(vbus_figures, lowest) == 2);
+    CHECK(sizeof(vbus_slave_kept) == 8 && offsetof(vbus_slave_kept, number) == 0 && offsetof(vbus_slave_kept, figures) == 4);
+    CHECK(sizeof(vbus_figures_checked) == 8 && offsetof(vbus_figures_checked, number) == 0 &&
+          offsetof(vbus_figures_checked, right) == 4);
     CHECK(sizeof(bool) == 1 && WIDTH(vbus_validation, verdict) == 1 && WIDTH(vbus_validation, offset) == 8 &&
           WIDTH(vbus_validation, unused_septets) == 8 && WIDTH(vbus_found, number) == 4 &&
           WIDTH(vbus_found, position) == 8 && WIDTH(vbus_found, payload_length) == 8 && WIDTH(vbus_fault, place) == 8 &&
@@ -195,7 +209,9 @@ static void layouts(void) {
           WIDTH(vbus_septets, septet) == 1 && WIDTH(vbus_slave_id, number) == 4 && WIDTH(vbus_slave_id, device) == 4 &&
           WIDTH(vbus_slave_id, week) == 1 && WIDTH(vbus_slave_id, serial) == 4 && WIDTH(vbus_slave, address) == 2 &&
           WIDTH(vbus_slave, owner) == 1 && WIDTH(vbus_slave, device) == 4 && WIDTH(vbus_slave_found, number) == 4 &&
-          WIDTH(vbus_slave_found, device) == 4);
+          WIDTH(vbus_slave_found, device) == 4 && WIDTH(vbus_figures, no) == 1 && WIDTH(vbus_figures, yes) == 1 &&
+          WIDTH(vbus_figures, lowest) == 1 && WIDTH(vbus_slave_kept, number) == 4 && WIDTH(vbus_slave_kept, figures) == 3 &&
+          WIDTH(vbus_figures_checked, number) == 4 && WIDTH(vbus_figures_checked, right) == 1);
 }
 
 static void checksum_and_septets(void) {
@@ -680,31 +696,68 @@ static int filled(const vbus_slave *table, size_t from, size_t to) {
     return 1;
 }
 
+static vbus_figures figures(unsigned no, unsigned yes, unsigned lowest) {
+    vbus_figures made;
+    made.no = (uint8_t)no;
+    made.yes = (uint8_t)yes;
+    made.lowest = (uint8_t)lowest;
+    return made;
+}
+
+/* What counting a table gives, as the header has it. */
+static vbus_figures counted(const vbus_slave *table) {
+    vbus_figures figures = {0, 0, VBUS_SLAVES};
+    for (size_t i = VBUS_SLAVES; i-- > 0;) {
+        if (table[i].address == 0) figures.lowest = (uint8_t)i;
+        else if (table[i].owner) figures.yes++;
+        else figures.no++;
+    }
+    return figures;
+}
+
+/* Enters with the figures that counting gives, and odd ones if the length is wrong: those that come back are what
+ * counting gives afterwards, or those handed over. Gives the number. */
+static uint32_t put_in(vbus_slave *table, size_t n, vbus_slave slave) {
+    const vbus_figures before = n == VBUS_SLAVES ? counted(table) : figures(0x12, 0xF4, 0x86);
+    const vbus_slave_kept kept = vbus_slave_enter(table, n, before, slave);
+    const vbus_figures after = n == VBUS_SLAVES ? counted(table) : before;
+    CHECK(figures_are(kept.figures, after.no, after.yes, after.lowest));
+    return kept.number;
+}
+
+/* Removes likewise. */
+static uint32_t take_out(vbus_slave *table, size_t n, bool owner, uint16_t address) {
+    const vbus_figures before = n == VBUS_SLAVES ? counted(table) : figures(0x12, 0xF4, 0x86);
+    const vbus_slave_kept kept = vbus_slave_remove(table, n, before, owner, address);
+    const vbus_figures after = n == VBUS_SLAVES ? counted(table) : before;
+    CHECK(figures_are(kept.figures, after.no, after.yes, after.lowest));
+    return kept.number;
+}
+
 static void slaves(void) {
     vbus_slave table[ENTRIES];
     memset(table, 0, sizeof table);
     const size_t n = VBUS_SLAVES;
     const vbus_slave first = slave(0x2345, true, 0xA3B2C1, 0xF7E5D4), second = slave(0x2010, false, 888888, 2344630);
-    CHECK(sizeof vbus_slave_enter(table, n, first) == 4);
-    CHECK(vbus_slave_enter(table, n, first) == 0 && slave_is(table[0], 0x2345, true, 0xA3B2C1, 0xF7E5D4));
-    CHECK(vbus_slave_enter(table, n, second) == 0 && slave_is(table[1], 0x2010, false, 888888, 2344630));
+    CHECK(put_in(table, n, first) == 0 && slave_is(table[0], 0x2345, true, 0xA3B2C1, 0xF7E5D4));
+    CHECK(put_in(table, n, second) == 0 && slave_is(table[1], 0x2010, false, 888888, 2344630));
     CHECK(slave_found_is(vbus_slave_find(table, n, true, 0x2345), 0, 0xA3B2C1, 0xF7E5D4));
     CHECK(slave_found_is(vbus_slave_find(table, n, false, 0x2010), 0, 888888, 2344630));
     CHECK(vbus_slave_change_address(table, n, true, 0x2345, 0x2F7F) == 0);
     CHECK(slave_is(table[0], 0x2F7F, true, 0xA3B2C1, 0xF7E5D4) && slave_is(table[1], 0x2010, false, 888888, 2344630));
     CHECK(vbus_slave_change_address(table, n, true, 0x2F7F, 0x2F7F) == 0 && slave_is(table[0], 0x2F7F, true, 0xA3B2C1, 0xF7E5D4));
-    CHECK(vbus_slave_remove(table, n, true, 0x2F7F) == 0 && slave_is(table[0], 0, false, 0, 0));
+    CHECK(take_out(table, n, true, 0x2F7F) == 0 && slave_is(table[0], 0, false, 0, 0));
     CHECK(slave_is(table[1], 0x2010, false, 888888, 2344630));
     /* the lowest free entry, which is the first again */
-    CHECK(vbus_slave_enter(table, n, first) == 0 && slave_is(table[0], 0x2345, true, 0xA3B2C1, 0xF7E5D4));
+    CHECK(put_in(table, n, first) == 0 && slave_is(table[0], 0x2345, true, 0xA3B2C1, 0xF7E5D4));
     for (size_t i = 2; i < ENTRIES; i++) CHECK(slave_is(table[i], 0, false, 0, 0));
 
     /* the last entry, and none behind it */
     fill(table);
     CHECK(slave_found_is(vbus_slave_find(table, n, true, 0x220F), 0, 0x81001F, 0x92001F));
     CHECK(slave_found_is(vbus_slave_find(table, n, false, 0x2300), VBUS_NO_SUCH_ADDRESS, 0, 0));
-    CHECK(vbus_slave_remove(table, n, true, 0x220F) == 0 && slave_is(table[31], 0, false, 0, 0));
-    CHECK(vbus_slave_enter(table, n, first) == 0 && slave_is(table[31], 0x2345, true, 0xA3B2C1, 0xF7E5D4));
+    CHECK(take_out(table, n, true, 0x220F) == 0 && slave_is(table[31], 0, false, 0, 0));
+    CHECK(put_in(table, n, first) == 0 && slave_is(table[31], 0x2345, true, 0xA3B2C1, 0xF7E5D4));
     CHECK(filled(table, 0, 31) && filled(table, 32, ENTRIES));
 }
 
@@ -715,29 +768,29 @@ static void two_owners(void) {
     for (int one = 0; one < 2; one++) {
         const bool own = one == 1, other = one == 0;
         memset(table, 0, sizeof table);
-        CHECK(vbus_slave_enter(table, n, slave(0x2010, own, 1, 2)) == 0);
+        CHECK(put_in(table, n, slave(0x2010, own, 1, 2)) == 0);
         CHECK(slave_found_is(vbus_slave_find(table, n, other, 0x2010), VBUS_NO_SUCH_ADDRESS, 0, 0));
         CHECK(vbus_slave_change_address(table, n, other, 0x2010, 0x2020) == VBUS_NO_SUCH_ADDRESS);
-        CHECK(vbus_slave_remove(table, n, other, 0x2010) == VBUS_NO_SUCH_ADDRESS);
-        CHECK(vbus_slave_enter(table, n, slave(0x2010, other, 3, 4)) == 0);
+        CHECK(take_out(table, n, other, 0x2010) == VBUS_NO_SUCH_ADDRESS);
+        CHECK(put_in(table, n, slave(0x2010, other, 3, 4)) == 0);
         CHECK(slave_is(table[0], 0x2010, own, 1, 2) && slave_is(table[1], 0x2010, other, 3, 4));
-        CHECK(vbus_slave_enter(table, n, slave(0x2010, own, 5, 6)) == VBUS_ADDRESS_TAKEN);
-        CHECK(vbus_slave_enter(table, n, slave(0x2010, other, 5, 6)) == VBUS_ADDRESS_TAKEN);
+        CHECK(put_in(table, n, slave(0x2010, own, 5, 6)) == VBUS_ADDRESS_TAKEN);
+        CHECK(put_in(table, n, slave(0x2010, other, 5, 6)) == VBUS_ADDRESS_TAKEN);
         CHECK(slave_found_is(vbus_slave_find(table, n, own, 0x2010), 0, 1, 2));
         CHECK(slave_found_is(vbus_slave_find(table, n, other, 0x2010), 0, 3, 4));
         CHECK(vbus_slave_change_address(table, n, other, 0x2010, 0x2020) == 0);
         CHECK(slave_is(table[0], 0x2010, own, 1, 2) && slave_is(table[1], 0x2020, other, 3, 4));
         CHECK(vbus_slave_change_address(table, n, other, 0x2020, 0x2010) == 0);
-        CHECK(vbus_slave_remove(table, n, other, 0x2010) == 0 && slave_is(table[1], 0, false, 0, 0));
+        CHECK(take_out(table, n, other, 0x2010) == 0 && slave_is(table[1], 0, false, 0, 0));
         CHECK(slave_is(table[0], 0x2010, own, 1, 2));
-        CHECK(vbus_slave_remove(table, n, own, 0x2010) == 0 && slave_is(table[0], 0, false, 0, 0));
+        CHECK(take_out(table, n, own, 0x2010) == 0 && slave_is(table[0], 0, false, 0, 0));
     }
 }
 
 /* Enters so many slaves of an owner, from 0x2100 on. */
 static int entered(vbus_slave *table, bool owner, uint16_t count) {
     for (uint16_t i = 0; i < count; i++)
-        if (vbus_slave_enter(table, VBUS_SLAVES, slave((uint16_t)(0x2100 + i), owner, i, i)) != 0) return 0;
+        if (put_in(table, VBUS_SLAVES, slave((uint16_t)(0x2100 + i), owner, i, i)) != 0) return 0;
     return 1;
 }
 
@@ -751,21 +804,21 @@ static void shares(void) {
         memset(table, 0, sizeof table);
         CHECK(entered(table, own, 24));
         memcpy(before, table, sizeof before);
-        CHECK(vbus_slave_enter(table, n, slave(0x2200, own, 0, 0)) == VBUS_TABLE_FULL);
-        CHECK(vbus_slave_enter(table, n, slave(0x2100, own, 0, 0)) == VBUS_ADDRESS_TAKEN);
+        CHECK(put_in(table, n, slave(0x2200, own, 0, 0)) == VBUS_TABLE_FULL);
+        CHECK(put_in(table, n, slave(0x2100, own, 0, 0)) == VBUS_ADDRESS_TAKEN);
         CHECK(memcmp(table, before, sizeof before) == 0);
         CHECK(entered(table, other, 8));
         memcpy(before, table, sizeof before);
-        CHECK(vbus_slave_enter(table, n, slave(0x2200, own, 0, 0)) == VBUS_TABLE_FULL);
-        CHECK(vbus_slave_enter(table, n, slave(0x2200, other, 0, 0)) == VBUS_TABLE_FULL);
+        CHECK(put_in(table, n, slave(0x2200, own, 0, 0)) == VBUS_TABLE_FULL);
+        CHECK(put_in(table, n, slave(0x2200, other, 0, 0)) == VBUS_TABLE_FULL);
         CHECK(memcmp(table, before, sizeof before) == 0);
         /* an entry that the other gives up isn't for the one; one that the one gives up is for the other */
-        CHECK(vbus_slave_remove(table, n, other, 0x2107) == 0);
-        CHECK(vbus_slave_enter(table, n, slave(0x2200, own, 0, 0)) == VBUS_TABLE_FULL);
-        CHECK(vbus_slave_enter(table, n, slave(0x2200, other, 3, 4)) == 0 && slave_is(table[31], 0x2200, other, 3, 4));
-        CHECK(vbus_slave_remove(table, n, own, 0x2107) == 0);
-        CHECK(vbus_slave_enter(table, n, slave(0x2201, other, 5, 6)) == 0 && slave_is(table[7], 0x2201, other, 5, 6));
-        CHECK(vbus_slave_enter(table, n, slave(0x2107, own, 0, 0)) == VBUS_TABLE_FULL);
+        CHECK(take_out(table, n, other, 0x2107) == 0);
+        CHECK(put_in(table, n, slave(0x2200, own, 0, 0)) == VBUS_TABLE_FULL);
+        CHECK(put_in(table, n, slave(0x2200, other, 3, 4)) == 0 && slave_is(table[31], 0x2200, other, 3, 4));
+        CHECK(take_out(table, n, own, 0x2107) == 0);
+        CHECK(put_in(table, n, slave(0x2201, other, 5, 6)) == 0 && slave_is(table[7], 0x2201, other, 5, 6));
+        CHECK(put_in(table, n, slave(0x2107, own, 0, 0)) == VBUS_TABLE_FULL);
     }
 }
 
@@ -788,14 +841,14 @@ static void slaves_brought_in(void) {
     CHECK(vbus_slave_change_address(table, n, false, 0x2103, 0x2400) == 0 && slave_is(table[3], 0x2400, false, 0x810003, 0x920003));
     CHECK(slave_found_is(vbus_slave_find(table, n, false, 0x2103), 0, 0x810014, 0x920014));
     CHECK(vbus_slave_change_address(table, n, true, 0x2008, 0x2108) == 0 && slave_is(table[8], 0x2108, true, 0xFFFFFFFF, 0x80000000));
-    CHECK(vbus_slave_enter(table, n, slave(0x2401, true, 1, 0x1000000)) == VBUS_NOT_SLAVE_ID);
+    CHECK(put_in(table, n, slave(0x2401, true, 1, 0x1000000)) == VBUS_NOT_SLAVE_ID);
     CHECK(slave_is(table[2], 0, false, 0x810002, 0x920002));
-    CHECK(vbus_slave_enter(table, n, slave(0x2401, true, 1, 2)) == 0 && slave_is(table[2], 0x2401, true, 1, 2));
+    CHECK(put_in(table, n, slave(0x2401, true, 1, 2)) == 0 && slave_is(table[2], 0x2401, true, 1, 2));
     memcpy(expected + 2, table + 2, 2 * sizeof *table);
     memcpy(expected + 8, table + 8, sizeof *table);
     CHECK(memcmp(table, expected, sizeof table) == 0);
     table[9].address = table[10].address = expected[10].address = 0xFFFF;
-    CHECK(vbus_slave_remove(table, n, true, 0xFFFF) == 0 && slave_is(table[9], 0, false, 0, 0));
+    CHECK(take_out(table, n, true, 0xFFFF) == 0 && slave_is(table[9], 0, false, 0, 0));
     memcpy(expected + 9, table + 9, sizeof *table);
     CHECK(memcmp(table, expected, sizeof table) == 0);
 }
@@ -810,18 +863,18 @@ static void shares_brought_in(void) {
         fill(table);
         for (size_t i = 0; i < VBUS_SLAVES; i++) table[i].owner = own;
         for (uint16_t i = 0; i < 8; i++) {
-            CHECK(vbus_slave_enter(table, n, slave(0x2400, own, 0, 0)) == VBUS_TABLE_FULL);
-            CHECK(vbus_slave_enter(table, n, slave(0x2400, other, 0, 0)) == VBUS_TABLE_FULL);
-            CHECK(vbus_slave_remove(table, n, own, (uint16_t)(0x2100 + i)) == 0);
+            CHECK(put_in(table, n, slave(0x2400, own, 0, 0)) == VBUS_TABLE_FULL);
+            CHECK(put_in(table, n, slave(0x2400, other, 0, 0)) == VBUS_TABLE_FULL);
+            CHECK(take_out(table, n, own, (uint16_t)(0x2100 + i)) == 0);
             /* free again, but in name the owner's */
             table[i].owner = own;
-            CHECK(vbus_slave_enter(table, n, slave(0x2400, own, 0, 0)) == VBUS_TABLE_FULL);
-            CHECK(vbus_slave_enter(table, n, slave(0x2400, other, 0, 0)) == 0 && slave_is(table[i], 0x2400, other, 0, 0));
+            CHECK(put_in(table, n, slave(0x2400, own, 0, 0)) == VBUS_TABLE_FULL);
+            CHECK(put_in(table, n, slave(0x2400, other, 0, 0)) == 0 && slave_is(table[i], 0x2400, other, 0, 0));
             CHECK(vbus_slave_change_address(table, n, other, 0x2400, (uint16_t)(0x2401 + i)) == 0);
         }
-        CHECK(vbus_slave_remove(table, n, own, 0x220F) == 0);
+        CHECK(take_out(table, n, own, 0x220F) == 0);
         table[31].owner = own;
-        CHECK(vbus_slave_enter(table, n, slave(0x2400, own, 1, 2)) == 0 && slave_is(table[31], 0x2400, own, 1, 2));
+        CHECK(put_in(table, n, slave(0x2400, own, 1, 2)) == 0 && slave_is(table[31], 0x2400, own, 1, 2));
     }
 }
 
@@ -832,16 +885,16 @@ static void refused_slaves(void) {
     table[8].address = 0x2008; /* brought in: no slave has it */
     memcpy(before, table, sizeof before);
     const size_t n = VBUS_SLAVES;
-    CHECK(vbus_slave_enter(table, n, slave(0x2008, true, 0x1000000, 0)) == VBUS_NOT_SLAVE_ADDRESS);
-    CHECK(vbus_slave_enter(table, n, slave(0x0000, true, 0, 0)) == VBUS_NOT_SLAVE_ADDRESS);
-    CHECK(vbus_slave_enter(table, n, slave(0x2080, true, 0, 0)) == VBUS_NOT_SLAVE_ADDRESS);
-    CHECK(vbus_slave_enter(table, n, slave(0xA010, false, 0, 0)) == VBUS_NOT_SLAVE_ADDRESS);
-    CHECK(vbus_slave_enter(table, n, slave(0x3010, false, 0, 0)) == VBUS_NOT_SLAVE_ADDRESS);
-    CHECK(vbus_slave_enter(table, n, slave(0x2100, false, 0x1000000, 0)) == VBUS_NOT_SLAVE_ID);
-    CHECK(vbus_slave_enter(table, n, slave(0x2100, false, 0, 0xFFFFFFFF)) == VBUS_NOT_SLAVE_ID);
-    CHECK(vbus_slave_enter(table, n, slave(0x2100, false, 0, 0)) == VBUS_ADDRESS_TAKEN);
-    CHECK(vbus_slave_enter(table, n, slave(0x2100, true, 0, 0)) == VBUS_TABLE_FULL);
-    CHECK(vbus_slave_enter(table, n, slave(0x2400, false, 0, 0)) == VBUS_TABLE_FULL);
+    CHECK(put_in(table, n, slave(0x2008, true, 0x1000000, 0)) == VBUS_NOT_SLAVE_ADDRESS);
+    CHECK(put_in(table, n, slave(0x0000, true, 0, 0)) == VBUS_NOT_SLAVE_ADDRESS);
+    CHECK(put_in(table, n, slave(0x2080, true, 0, 0)) == VBUS_NOT_SLAVE_ADDRESS);
+    CHECK(put_in(table, n, slave(0xA010, false, 0, 0)) == VBUS_NOT_SLAVE_ADDRESS);
+    CHECK(put_in(table, n, slave(0x3010, false, 0, 0)) == VBUS_NOT_SLAVE_ADDRESS);
+    CHECK(put_in(table, n, slave(0x2100, false, 0x1000000, 0)) == VBUS_NOT_SLAVE_ID);
+    CHECK(put_in(table, n, slave(0x2100, false, 0, 0xFFFFFFFF)) == VBUS_NOT_SLAVE_ID);
+    CHECK(put_in(table, n, slave(0x2100, false, 0, 0)) == VBUS_ADDRESS_TAKEN);
+    CHECK(put_in(table, n, slave(0x2100, true, 0, 0)) == VBUS_TABLE_FULL);
+    CHECK(put_in(table, n, slave(0x2400, false, 0, 0)) == VBUS_TABLE_FULL);
     CHECK(vbus_slave_change_address(table, n, true, 0x2400, 0x2008) == VBUS_NOT_SLAVE_ADDRESS);
     CHECK(vbus_slave_change_address(table, n, true, 0x2008, 0x2008) == VBUS_NOT_SLAVE_ADDRESS);
     CHECK(vbus_slave_change_address(table, n, false, 0x2400, 0x2100) == VBUS_NO_SUCH_ADDRESS);
@@ -850,26 +903,127 @@ static void refused_slaves(void) {
     CHECK(vbus_slave_change_address(table, n, false, 0x2100, 0x2101) == VBUS_ADDRESS_TAKEN);
     CHECK(slave_found_is(vbus_slave_find(table, n, false, 0x2400), VBUS_NO_SUCH_ADDRESS, 0, 0));
     CHECK(slave_found_is(vbus_slave_find(table, n, true, 0x2100), VBUS_NO_SUCH_ADDRESS, 0, 0));
-    CHECK(vbus_slave_remove(table, n, false, 0x2400) == VBUS_NO_SUCH_ADDRESS);
-    CHECK(vbus_slave_remove(table, n, true, 0x2100) == VBUS_NO_SUCH_ADDRESS);
+    CHECK(take_out(table, n, false, 0x2400) == VBUS_NO_SUCH_ADDRESS);
+    CHECK(take_out(table, n, true, 0x2100) == VBUS_NO_SUCH_ADDRESS);
     const size_t lengths[] = {1, 31, 33};
     for (size_t i = 0; i < 3; i++) {
-        CHECK(vbus_slave_enter(table, lengths[i], slave(0x2008, true, 0x1000000, 0)) == VBUS_WRONG_TABLE_LENGTH);
-        CHECK(vbus_slave_enter(table, lengths[i], slave(0x2400, true, 0, 0)) == VBUS_WRONG_TABLE_LENGTH);
+        CHECK(put_in(table, lengths[i], slave(0x2008, true, 0x1000000, 0)) == VBUS_WRONG_TABLE_LENGTH);
+        CHECK(put_in(table, lengths[i], slave(0x2400, true, 0, 0)) == VBUS_WRONG_TABLE_LENGTH);
         CHECK(slave_found_is(vbus_slave_find(table, lengths[i], false, 0x2100), VBUS_WRONG_TABLE_LENGTH, 0, 0));
         CHECK(slave_found_is(vbus_slave_find(table, lengths[i], true, 0), VBUS_WRONG_TABLE_LENGTH, 0, 0));
         CHECK(vbus_slave_change_address(table, lengths[i], false, 0x2100, 0x2400) == VBUS_WRONG_TABLE_LENGTH);
         CHECK(vbus_slave_change_address(table, lengths[i], true, 0, 0) == VBUS_WRONG_TABLE_LENGTH);
-        CHECK(vbus_slave_remove(table, lengths[i], false, 0x2100) == VBUS_WRONG_TABLE_LENGTH);
-        CHECK(vbus_slave_remove(table, lengths[i], true, 0) == VBUS_WRONG_TABLE_LENGTH);
+        CHECK(take_out(table, lengths[i], false, 0x2100) == VBUS_WRONG_TABLE_LENGTH);
+        CHECK(take_out(table, lengths[i], true, 0) == VBUS_WRONG_TABLE_LENGTH);
     }
     CHECK(memcmp(table, before, sizeof before) == 0);
     /* a free entry is never found, whatever it has besides its address */
     table[8].address = before[8].address = 0;
     CHECK(slave_found_is(vbus_slave_find(table, n, true, 0), VBUS_NO_SUCH_ADDRESS, 0, 0));
-    CHECK(vbus_slave_remove(table, n, true, 0) == VBUS_NO_SUCH_ADDRESS);
+    CHECK(take_out(table, n, true, 0) == VBUS_NO_SUCH_ADDRESS);
     CHECK(vbus_slave_change_address(table, n, true, 0, 0x2400) == VBUS_NO_SUCH_ADDRESS);
     CHECK(memcmp(table, before, sizeof before) == 0);
+}
+
+/* Figures kept from call to call, from the empty table's on, which are all zero bytes. */
+static void kept_figures(void) {
+    vbus_slave table[ENTRIES];
+    const size_t n = VBUS_SLAVES;
+    memset(table, 0, sizeof table);
+    vbus_slave_kept kept;
+    memset(&kept, 0, sizeof kept);
+    CHECK(sizeof vbus_slave_enter(table, n, kept.figures, slave(0x2010, true, 1, 2)) == 8);
+    CHECK(sizeof vbus_slave_remove(table, n, kept.figures, true, 0x2010) == 8);
+    CHECK(sizeof vbus_slave_check_figures(table, n, kept.figures) == 8);
+    CHECK(checked_is(vbus_slave_check_figures(table, n, kept.figures), 0, 1));
+    CHECK(kept_is(kept = vbus_slave_enter(table, n, kept.figures, slave(0x2010, true, 1, 2)), 0, 0, 1, 1));
+    CHECK(kept_is(kept = vbus_slave_enter(table, n, kept.figures, slave(0x2010, false, 1, 2)), 0, 1, 1, 2));
+    CHECK(kept_is(kept = vbus_slave_enter(table, n, kept.figures, slave(0x2011, true, 1, 2)), 0, 1, 2, 3));
+    CHECK(kept_is(kept = vbus_slave_enter(table, n, kept.figures, slave(0x2012, true, 1, 2)), 0, 1, 3, 4));
+    CHECK(kept_is(kept = vbus_slave_enter(table, n, kept.figures, slave(0x2012, true, 1, 2)), VBUS_ADDRESS_TAKEN, 1, 3, 4));
+    CHECK(vbus_slave_change_address(table, n, true, 0x2012, 0x2013) == 0);
+    CHECK(checked_is(vbus_slave_check_figures(table, n, kept.figures), 0, 1));
+    CHECK(kept_is(kept = vbus_slave_remove(table, n, kept.figures, false, 0x2013), VBUS_NO_SUCH_ADDRESS, 1, 3, 4));
+    CHECK(kept_is(kept = vbus_slave_remove(table, n, kept.figures, true, 0x2011), 0, 1, 2, 2));
+    CHECK(kept_is(kept = vbus_slave_remove(table, n, kept.figures, false, 0x2010), 0, 0, 2, 1));
+    CHECK(kept_is(kept = vbus_slave_remove(table, n, kept.figures, true, 0x2013), 0, 0, 1, 1));
+    CHECK(kept_is(kept = vbus_slave_enter(table, n, kept.figures, slave(0x2014, false, 1, 2)), 0, 1, 1, 2));
+    /* the last free entry: behind it there is none */
+    fill(table);
+    table[30].address = 0;
+    table[3].address = 0;
+    CHECK(kept_is(kept = vbus_slave_enter(table, n, figures(15, 15, 3), slave(0x2400, true, 1, 2)), 0, 15, 16, 30));
+    CHECK(kept_is(kept = vbus_slave_enter(table, n, kept.figures, slave(0x2401, true, 1, 2)), 0, 15, 17, 32));
+    CHECK(kept_is(kept = vbus_slave_enter(table, n, kept.figures, slave(0x2402, true, 1, 2)), VBUS_TABLE_FULL, 15, 17, 32));
+    CHECK(kept_is(kept = vbus_slave_remove(table, n, kept.figures, true, 0x220F), 0, 15, 16, 31));
+    CHECK(filled(table, 32, ENTRIES));
+}
+
+/* Right are the figures that counting gives, all three, and no others. Nothing in the table changes. */
+static void checked_figures(void) {
+    vbus_slave table[ENTRIES], before[ENTRIES];
+    const size_t n = VBUS_SLAVES;
+    fill(table);
+    table[2].address = table[9].address = table[31].address = 0;
+    table[4].address = table[5].address = 0xFFFF;
+    memcpy(before, table, sizeof before);
+    for (unsigned value = 0; value < 256; value++) {
+        CHECK(checked_is(vbus_slave_check_figures(table, n, figures(value, 14, 2)), 0, value == 15));
+        CHECK(checked_is(vbus_slave_check_figures(table, n, figures(15, value, 2)), 0, value == 14));
+        CHECK(checked_is(vbus_slave_check_figures(table, n, figures(15, 14, value)), 0, value == 2));
+    }
+    CHECK(checked_is(vbus_slave_check_figures(table, n, figures(14, 15, 2)), 0, 0));
+    const size_t lengths[] = {0, 1, 31, 33};
+    for (size_t i = 0; i < 4; i++)
+        CHECK(checked_is(vbus_slave_check_figures(table, lengths[i], figures(15, 14, 2)), VBUS_WRONG_TABLE_LENGTH, 0));
+    CHECK(memcmp(table, before, sizeof before) == 0);
+}
+
+/* With figures that aren't the table's, only 16, the entry taken and the figures afterwards go by them. */
+static void false_figures(void) {
+    vbus_slave table[ENTRIES], before[ENTRIES];
+    const size_t n = VBUS_SLAVES;
+    fill(table);
+    table[5].address = table[20].address = 0;
+    memcpy(before, table, sizeof before);
+    for (unsigned value = 0; value < 256; value++) {
+        const vbus_figures all = figures(value, value, value);
+        const unsigned less = value == 0 ? 0 : value - 1;
+        /* the owner's alone, and the lowest */
+        memcpy(table, before, sizeof before);
+        if (value < 24) {
+            CHECK(kept_is(vbus_slave_enter(table, n, figures(99, value, 0), slave(0x2400, true, 1, 2)), 0, 99, value + 1, 20));
+            CHECK(slave_is(table[5], 0x2400, true, 1, 2) && memcmp(table + 6, before + 6, (ENTRIES - 6) * sizeof *table) == 0);
+        } else {
+            CHECK(kept_is(vbus_slave_enter(table, n, figures(99, value, 0), slave(0x2400, true, 1, 2)), VBUS_TABLE_FULL, 99, value, 0));
+            CHECK(memcmp(table, before, sizeof before) == 0);
+        }
+        memcpy(table, before, sizeof before);
+        if (value <= 5) {
+            CHECK(kept_is(vbus_slave_enter(table, n, figures(7, 255, value), slave(0x2400, false, 1, 2)), 0, 8, 255, 20));
+            CHECK(slave_is(table[5], 0x2400, false, 1, 2) && memcmp(table + 6, before + 6, (ENTRIES - 6) * sizeof *table) == 0);
+        } else if (value <= 20) {
+            CHECK(kept_is(vbus_slave_enter(table, n, figures(7, 255, value), slave(0x2400, false, 1, 2)), 0, 8, 255, 32));
+            CHECK(slave_is(table[20], 0x2400, false, 1, 2) && memcmp(table, before, 20 * sizeof *table) == 0);
+        } else {
+            CHECK(kept_is(vbus_slave_enter(table, n, figures(7, 255, value), slave(0x2400, false, 1, 2)), VBUS_TABLE_FULL, 7, 255, value));
+            CHECK(memcmp(table, before, sizeof before) == 0);
+        }
+        /* the other refusals, which change nothing */
+        memcpy(table, before, sizeof before);
+        CHECK(kept_is(vbus_slave_enter(table, n, all, slave(0x2000, true, 0x1000000, 0)), VBUS_NOT_SLAVE_ADDRESS, value, value, value));
+        CHECK(kept_is(vbus_slave_enter(table, n, all, slave(0x2100, false, 0x1000000, 0)), VBUS_NOT_SLAVE_ID, value, value, value));
+        CHECK(kept_is(vbus_slave_enter(table, n, all, slave(0x2100, false, 0, 0)), VBUS_ADDRESS_TAKEN, value, value, value));
+        CHECK(kept_is(vbus_slave_enter(table, 31, all, slave(0x2400, false, 0, 0)), VBUS_WRONG_TABLE_LENGTH, value, value, value));
+        CHECK(kept_is(vbus_slave_remove(table, n, all, true, 0x2100), VBUS_NO_SUCH_ADDRESS, value, value, value));
+        CHECK(kept_is(vbus_slave_remove(table, 33, all, false, 0x2100), VBUS_WRONG_TABLE_LENGTH, value, value, value));
+        CHECK(memcmp(table, before, sizeof before) == 0);
+        /* removing goes by the table; 0 stays 0, and the lowest is never raised */
+        CHECK(kept_is(vbus_slave_remove(table, n, all, true, 0x2108), 0, value, less, value < 8 ? value : 8));
+        CHECK(slave_is(table[8], 0, false, 0, 0));
+        CHECK(kept_is(vbus_slave_remove(table, n, all, false, 0x2200), 0, less, value, value < 16 ? value : 16));
+        CHECK(slave_is(table[16], 0, false, 0, 0) && filled(table, 21, ENTRIES));
+    }
 }
 
 /* NULL is never read or written where its count is 0: a read would end the program. */
@@ -908,10 +1062,11 @@ static void null_with_zero(void) {
     /* nor is anything of a table whose count is wrong, here that of its bytes too */
     const size_t counts[] = {0, 1, 31, 33, VBUS_SLAVES * sizeof(vbus_slave), (size_t)-1};
     for (size_t i = 0; i < sizeof counts / sizeof *counts; i++) {
-        CHECK(vbus_slave_enter(NULL, counts[i], slave(0x2010, true, 0, 0)) == VBUS_WRONG_TABLE_LENGTH);
+        CHECK(kept_is(vbus_slave_enter(NULL, counts[i], figures(1, 2, 3), slave(0x2010, true, 0, 0)), VBUS_WRONG_TABLE_LENGTH, 1, 2, 3));
         CHECK(slave_found_is(vbus_slave_find(NULL, counts[i], true, 0x2010), VBUS_WRONG_TABLE_LENGTH, 0, 0));
         CHECK(vbus_slave_change_address(NULL, counts[i], true, 0x2010, 0x2011) == VBUS_WRONG_TABLE_LENGTH);
-        CHECK(vbus_slave_remove(NULL, counts[i], true, 0x2010) == VBUS_WRONG_TABLE_LENGTH);
+        CHECK(kept_is(vbus_slave_remove(NULL, counts[i], figures(1, 2, 3), true, 0x2010), VBUS_WRONG_TABLE_LENGTH, 1, 2, 3));
+        CHECK(checked_is(vbus_slave_check_figures(NULL, counts[i], figures(0, 0, 0)), VBUS_WRONG_TABLE_LENGTH, 0));
     }
 }
 
@@ -941,6 +1096,9 @@ int main(void) {
     slaves_brought_in();
     shares_brought_in();
     refused_slaves();
+    kept_figures();
+    checked_figures();
+    false_figures();
     null_with_zero();
     printf("%u passed, %u failed\n", passed, failed);
     return failed == 0 ? 0 : 1;
