@@ -21,14 +21,14 @@
 /* the four section functions last: they have a limit of their own */
 enum {
     CHECKSUM, EXTRACT, INJECT, VALIDATE, NEXT, NEXT_FAULT, RECEIVE, RESET, ENCODE, NORMALIZE, VALUE, TEMPERATURE,
-    READ_SLAVE_ID, WRITE_SLAVE_ID, SLAVE_ENTER, SLAVE_FIND, SLAVE_CHANGE_ADDRESS, SLAVE_REMOVE,
+    READ_SLAVE_ID, WRITE_SLAVE_ID, SLAVE_ENTER, SLAVE_FIND, SLAVE_CHANGE_ADDRESS, SLAVE_REMOVE, SLAVE_CHECK_FIGURES,
     SECTION_COUNT, SECTION, ELEMENT_COUNT, ELEMENT, EXPORTS
 };
 static const char *const names[EXPORTS] = {
     "vbus_checksum", "vbus_extract", "vbus_inject", "vbus_validate", "vbus_next", "vbus_next_fault", "vbus_receive",
     "vbus_reset", "vbus_encode", "vbus_normalize", "vbus_value", "vbus_temperature", "vbus_read_slave_id",
     "vbus_write_slave_id", "vbus_slave_enter", "vbus_slave_find", "vbus_slave_change_address", "vbus_slave_remove",
-    "vbus_section_count", "vbus_section", "vbus_element_count", "vbus_element"};
+    "vbus_slave_check_figures", "vbus_section_count", "vbus_section", "vbus_element_count", "vbus_element"};
 
 /* the arguments of the call under measurement */
 static struct {
@@ -40,6 +40,7 @@ static struct {
     vbus_receiver receiver;
     uint8_t *out;
     size_t room;
+    vbus_figures figures;
     vbus_slave slave;
     bool owner;
     uint16_t from, to;
@@ -73,10 +74,11 @@ static EMPTY vbus_count no_element_count(UNUSED vbus_header a, UNUSED const uint
 static EMPTY vbus_part no_element(UNUSED vbus_header a, UNUSED const uint8_t *b, UNUSED size_t c, UNUSED size_t d, UNUSED size_t e) { static vbus_part z; __asm__(""); return z; }
 static EMPTY vbus_slave_id no_read_slave_id(UNUSED vbus_header a, UNUSED const uint8_t *b, UNUSED size_t c) { static vbus_slave_id z; __asm__(""); return z; }
 static EMPTY vbus_written no_write_slave_id(UNUSED uint16_t a, UNUSED uint16_t b, UNUSED uint32_t c, UNUSED uint32_t d, UNUSED uint8_t *e, UNUSED size_t f) { static vbus_written z; __asm__(""); return z; }
-static EMPTY uint32_t no_slave_enter(UNUSED vbus_slave *a, UNUSED size_t b, UNUSED vbus_slave c) { __asm__(""); return 0; }
+static EMPTY vbus_slave_kept no_slave_enter(UNUSED vbus_slave *a, UNUSED size_t b, UNUSED vbus_figures c, UNUSED vbus_slave d) { static vbus_slave_kept z; __asm__(""); return z; }
 static EMPTY vbus_slave_found no_slave_find(UNUSED const vbus_slave *a, UNUSED size_t b, UNUSED bool c, UNUSED uint16_t d) { static vbus_slave_found z; __asm__(""); return z; }
 static EMPTY uint32_t no_slave_change_address(UNUSED vbus_slave *a, UNUSED size_t b, UNUSED bool c, UNUSED uint16_t d, UNUSED uint16_t e) { __asm__(""); return 0; }
-static EMPTY uint32_t no_slave_remove(UNUSED vbus_slave *a, UNUSED size_t b, UNUSED bool c, UNUSED uint16_t d) { __asm__(""); return 0; }
+static EMPTY vbus_slave_kept no_slave_remove(UNUSED vbus_slave *a, UNUSED size_t b, UNUSED vbus_figures c, UNUSED bool d, UNUSED uint16_t e) { static vbus_slave_kept z; __asm__(""); return z; }
+static EMPTY vbus_figures_checked no_slave_check_figures(UNUSED const vbus_slave *a, UNUSED size_t b, UNUSED vbus_figures c) { static vbus_figures_checked z; __asm__(""); return z; }
 
 /* The export and the empty function go through one pointer, so that both are called by the same code. */
 static uint8_t (*volatile f_checksum)(const uint8_t *, size_t);
@@ -97,10 +99,11 @@ static vbus_count (*volatile f_element_count)(vbus_header, const uint8_t *, size
 static vbus_part (*volatile f_element)(vbus_header, const uint8_t *, size_t, size_t, size_t);
 static vbus_slave_id (*volatile f_read_slave_id)(vbus_header, const uint8_t *, size_t);
 static vbus_written (*volatile f_write_slave_id)(uint16_t, uint16_t, uint32_t, uint32_t, uint8_t *, size_t);
-static uint32_t (*volatile f_slave_enter)(vbus_slave *, size_t, vbus_slave);
+static vbus_slave_kept (*volatile f_slave_enter)(vbus_slave *, size_t, vbus_figures, vbus_slave);
 static vbus_slave_found (*volatile f_slave_find)(const vbus_slave *, size_t, bool, uint16_t);
 static uint32_t (*volatile f_slave_change_address)(vbus_slave *, size_t, bool, uint16_t, uint16_t);
-static uint32_t (*volatile f_slave_remove)(vbus_slave *, size_t, bool, uint16_t);
+static vbus_slave_kept (*volatile f_slave_remove)(vbus_slave *, size_t, vbus_figures, bool, uint16_t);
+static vbus_figures_checked (*volatile f_slave_check_figures)(const vbus_slave *, size_t, vbus_figures);
 
 static void choose(int empty) {
     f_checksum = empty ? no_checksum : vbus_checksum;
@@ -125,6 +128,7 @@ static void choose(int empty) {
     f_slave_find = empty ? no_slave_find : vbus_slave_find;
     f_slave_change_address = empty ? no_slave_change_address : vbus_slave_change_address;
     f_slave_remove = empty ? no_slave_remove : vbus_slave_remove;
+    f_slave_check_figures = empty ? no_slave_check_figures : vbus_slave_check_figures;
 }
 
 static union {
@@ -142,6 +146,8 @@ static union {
     vbus_part part;
     vbus_slave_id slave_id;
     vbus_slave_found slave_found;
+    vbus_slave_kept slave_kept;
+    vbus_figures_checked figures_checked;
     uint32_t number;
 } answer;
 
@@ -172,10 +178,11 @@ static void run(void) {
     case ELEMENT: answer.part = f_element(call.header, call.input, call.n, call.section, call.element); break;
     case READ_SLAVE_ID: answer.slave_id = f_read_slave_id(call.header, call.input, call.n); break;
     case WRITE_SLAVE_ID: answer.written = f_write_slave_id(call.to, call.from, call.slave.product, call.slave.device, call.out, call.room); break;
-    case SLAVE_ENTER: answer.number = f_slave_enter(table, call.n, call.slave); break;
+    case SLAVE_ENTER: answer.slave_kept = f_slave_enter(table, call.n, call.figures, call.slave); break;
     case SLAVE_FIND: answer.slave_found = f_slave_find(table, call.n, call.owner, call.from); break;
     case SLAVE_CHANGE_ADDRESS: answer.number = f_slave_change_address(table, call.n, call.owner, call.from, call.to); break;
-    case SLAVE_REMOVE: answer.number = f_slave_remove(table, call.n, call.owner, call.from); break;
+    case SLAVE_REMOVE: answer.slave_kept = f_slave_remove(table, call.n, call.figures, call.owner, call.from); break;
+    case SLAVE_CHECK_FIGURES: answer.figures_checked = f_slave_check_figures(table, call.n, call.figures); break;
     }
     /* here, and without a call: what follows on this stack, back to main's, would count too */
     size_t low = 0;
@@ -486,28 +493,46 @@ static void slave_ids(void) {
     }
 }
 
-/* every call of an owner on the table in `entries`, with addresses that it has and others */
-static void calls_of(bool owner) {
-    static const uint16_t addresses[7] = {0x2100, 0x210F, 0x211F, 0x2F7F, 0x2000, 0xA010, 0};
+/* the calls of an owner that get figures, on the table in `entries` and with those in `call` */
+static void calls_with_figures(bool owner, uint16_t address) {
     call.owner = call.slave.owner = owner;
-    for (int i = 0; i < 7; i++) {
-        call.from = addresses[i];
+    call.from = call.slave.address = address;
+    call.slave.product = 0xFFFFFF;
+    measure(SLAVE_REMOVE);
+    for (call.slave.device = 0xFFFFFF; call.slave.device <= 0x1000000; call.slave.device++) measure(SLAVE_ENTER);
+}
+
+/* what counting the table in `entries` gives; of one that isn't of the right length, of its first entries */
+static vbus_figures counted(void) {
+    vbus_figures figures = {0, 0, VBUS_SLAVES};
+    for (size_t i = VBUS_SLAVES; i-- > 0;) {
+        if (entries[i].address == 0) figures.lowest = (uint8_t)i;
+        else if (entries[i].owner) figures.yes++;
+        else figures.no++;
+    }
+    return figures;
+}
+
+/* Every call of both owners on the table in `entries`, with addresses that they have and others; with its figures, with
+ * those of the empty table, by which it is searched from its start, and with ones that no table has. */
+static void table_of(size_t n) {
+    static const uint16_t addresses[7] = {0x2100, 0x210F, 0x211F, 0x2F7F, 0x2000, 0xA010, 0};
+    const vbus_figures figures[3] = {counted(), {0, 0, 0}, {255, 255, 255}};
+    call.n = n;
+    for (int i = 0; i < 14; i++) {
+        call.owner = i % 2 == 1;
+        call.from = addresses[i / 2];
         measure(SLAVE_FIND);
-        measure(SLAVE_REMOVE);
         for (int j = 0; j < 7; j++) {
             call.to = addresses[j];
             measure(SLAVE_CHANGE_ADDRESS);
         }
-        call.slave.address = addresses[i];
-        call.slave.product = 0xFFFFFF;
-        for (call.slave.device = 0xFFFFFF; call.slave.device <= 0x1000000; call.slave.device++) measure(SLAVE_ENTER);
     }
-}
-
-static void table_of(size_t n) {
-    call.n = n;
-    calls_of(false);
-    calls_of(true);
+    for (int k = 0; k < 3; k++) {
+        call.figures = figures[k];
+        measure(SLAVE_CHECK_FIGURES);
+        for (int i = 0; i < 14; i++) calls_with_figures(i % 2 == 1, addresses[i / 2]);
+    }
 }
 
 /* A table in which the first `share` entries are the one owner's and the others the other's: full, and with one entry
