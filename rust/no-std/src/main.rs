@@ -10,7 +10,7 @@
 use core::fmt::{self, Write};
 use core::panic::PanicInfo;
 
-use vbus::{Error, Header, Kind, Receiver, Slave, SlaveTable};
+use vbus::{Error, Figures, Header, Kind, Receiver, Slave, SlaveTable};
 
 /// A telegram without a frame, behind the start of a stream that was cut off.
 const RECORDING: [u8; 11] = [
@@ -141,11 +141,22 @@ fn slaves() {
         let everyone = table.enter(slave(owner, 0x2000));
         assert_eq!(everyone, Err(Error::NotSlaveAddress));
     }
+    let one_each = Figures {
+        no: 1,
+        yes: 1,
+        lowest: 2,
+    };
+    assert_eq!(table.figures(), one_each);
     table.change_address(true, 0x2010, 0x2011).unwrap();
     assert_eq!(table.find(true, 0x2011), Ok(id.identifiers()));
     assert_eq!(table.find(false, 0x2010), Ok(id.identifiers()));
     let both = [slave(false, 0x2010), slave(true, 0x2011)];
     assert!(table.slaves().eq(both));
+    let (entries, figures) = table.clone().into_parts();
+    assert_eq!(figures, one_each);
+    assert_eq!(SlaveTable::from_parts(entries, Figures::default()), None);
+    assert_eq!(SlaveTable::from_parts(entries, figures), Some(table));
+    let mut table = SlaveTable::from(entries);
     table.remove(true, 0x2011).unwrap();
     let error = table.find(true, 0x2010).unwrap_err();
     let text = "the owner has no entry with that address";
