@@ -1059,8 +1059,8 @@ static void null_with_zero(void) {
     CHECK(count_is(vbus_section_count(clearance_header(), NULL, 0), VBUS_NOT_BLOCK_PACKET, 0));
     CHECK(no_slave_id(vbus_read_slave_id(telegram_header(), NULL, 0)));
     CHECK(written_is(vbus_write_slave_id(0x7731, 0x2010, 0, 0, NULL, 0), VBUS_OUTPUT_TOO_SHORT, 0));
-    /* nor is anything of a table whose count is wrong, here that of its bytes too */
-    const size_t counts[] = {0, 1, 31, 33, VBUS_SLAVES * sizeof(vbus_slave), (size_t)-1};
+    /* nor is anything of a table whose count is wrong, here that of its bytes too, and ones whose low byte or half is right */
+    const size_t counts[] = {0, 1, 31, 33, VBUS_SLAVES * sizeof(vbus_slave), VBUS_SLAVES + 256, VBUS_SLAVES + ((size_t)1 << 32), (size_t)-1};
     for (size_t i = 0; i < sizeof counts / sizeof *counts; i++) {
         CHECK(kept_is(vbus_slave_enter(NULL, counts[i], figures(1, 2, 3), slave(0x2010, true, 0, 0)), VBUS_WRONG_TABLE_LENGTH, 1, 2, 3));
         CHECK(slave_found_is(vbus_slave_find(NULL, counts[i], true, 0x2010), VBUS_WRONG_TABLE_LENGTH, 0, 0));

@@ -458,7 +458,7 @@ impl Checker {
         self.shares_by_calls()?;
         self.many_slaves()?;
         self.many_owners()?;
-        self.figures_without_table()?;
+        self.every_length_with_figures()?;
         self.every_figure()?;
         self.many_figures()?;
         for byte in 0..=255 {

@@ -499,15 +499,22 @@ impl Checker {
         Ok(())
     }
 
-    /// Lengths of tables that aren't there; nothing of them may be read.
-    pub fn figures_without_table(&mut self) -> Checked<()> {
-        for n in [0, 1, 31, 33, 384, usize::MAX] {
-            let (figures, slave) = (any_figures(&mut self.rng), self.plain_slave());
-            self.note(|| format!("calls on {n} entries that aren't there"));
-            let numbers = crate::library::without_table(n, figures, slave);
-            self.holds(numbers == [24; 5], || {
-                format!("{n} entries are refused as 24; given were {numbers:?}")
-            })?;
+    /// Figures with tables of every length up to some, and of those that have 32 as their low byte or
+    /// word.
+    pub fn every_length_with_figures(&mut self) -> Checked<()> {
+        for length in (0..=70).chain([255, 256, 256 + SLAVES, 65_536 + SLAVES]) {
+            for slave in [Slave::default(), self.plain_slave()] {
+                let mut table = Table::new(&mut self.rng, &vec![slave; length]);
+                let own = table.figures;
+                for figures in [own, Figures::default(), any_figures(&mut self.rng)] {
+                    self.check_figures(&mut table, figures)?;
+                    for call in self.calls_on(&[slave]) {
+                        let mut table = table.clone();
+                        table.figures = figures;
+                        self.with_any_figures(&mut table, call)?;
+                    }
+                }
+            }
         }
         Ok(())
     }

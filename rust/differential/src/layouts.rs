@@ -184,6 +184,7 @@ impl Checker {
         self.slave_ids()?;
         self.slaves()?;
         self.figures_by_value()?;
+        self.no_table()?;
         self.slave_by_registers()
     }
 
@@ -789,6 +790,28 @@ impl Checker {
         self.expect("vbus_slave_enter into 31", refused, kept(24, odd))?;
         let refused = library::slave_remove(&mut table[..31], odd, true, 0x2345);
         self.expect("vbus_slave_remove from 31", refused, kept(24, odd))
+    }
+
+    /// Nothing is read of a table with another length: here it isn't there, and lengths have 32 as their
+    /// low byte, word or half.
+    fn no_table(&mut self) -> Checked<()> {
+        let figures = Figures {
+            no: 0x12,
+            yes: 0x34,
+            lowest: 0xF6,
+        };
+        let (number, right) = (24, false);
+        let refused = SlaveKept { number, figures };
+        let expected = ([refused; 2], [number; 2], FiguresChecked { number, right });
+        let lengths = [1 << 8, 1 << 16, 1 << 32].map(|more| 32 + more);
+        for n in [0, 1, 31, 33, 32 * 12, usize::MAX]
+            .into_iter()
+            .chain(lengths)
+        {
+            let answers = library::without_table(n, figures, SLAVE);
+            self.expect("calls on no table", answers, expected)?;
+        }
+        Ok(())
     }
 
     /// The padding of an entry that is handed over may hold anything, and so may the upper part of a

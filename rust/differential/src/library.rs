@@ -280,19 +280,27 @@ pub fn slave_check_figures(table: &[Entry], given: Figures) -> FiguresChecked {
     as_reference!(answer => FiguresChecked { number, right })
 }
 
-/// All calls on a table of so many entries, not 32, of which none is there: their numbers.
-pub fn without_table(n: usize, given: Figures, entry: Slave) -> [u32; 5] {
+/// What all calls on a table answer that has so many entries, not 32, of which none is there: those that
+/// keep figures, the numbers of those that don't, and the check.
+pub fn without_table(
+    n: usize,
+    given: Figures,
+    entry: Slave,
+) -> ([SlaveKept; 2], [u32; 2], FiguresChecked) {
     assert_ne!(n, vbus_sys::SLAVES);
-    let table = std::ptr::null_mut();
+    let (table, from) = (std::ptr::null_mut(), figures(given));
     let Slave { address, owner, .. } = entry;
     // SAFETY: nothing of a table is read or written whose count is another one.
     unsafe {
-        [
-            vbus_sys::vbus_slave_enter(table, n, figures(given), slave(entry)).number,
-            vbus_sys::vbus_slave_find(table, n, owner, address).number,
-            vbus_sys::vbus_slave_change_address(table, n, owner, address, address),
-            vbus_sys::vbus_slave_remove(table, n, figures(given), owner, address).number,
-            vbus_sys::vbus_slave_check_figures(table, n, figures(given)).number,
-        ]
+        let entered = vbus_sys::vbus_slave_enter(table, n, from, slave(entry));
+        let removed = vbus_sys::vbus_slave_remove(table, n, from, owner, address);
+        let found = vbus_sys::vbus_slave_find(table, n, owner, address);
+        let changed = vbus_sys::vbus_slave_change_address(table, n, owner, address, address);
+        let checked = vbus_sys::vbus_slave_check_figures(table, n, from);
+        (
+            [kept(entered), kept(removed)],
+            [found.number, changed],
+            as_reference!(checked => FiguresChecked { number, right }),
+        )
     }
 }
