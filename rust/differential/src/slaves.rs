@@ -137,7 +137,7 @@ fn keep(figures: &mut Figures, answer: SlaveKept) -> SlaveFound {
 }
 
 impl Operation {
-    pub fn name(self) -> &'static str {
+    fn name(self) -> &'static str {
         match self {
             Enter(_) => "enter",
             Find(..) => "find",
