@@ -977,6 +977,13 @@ static void checked_figures(void) {
     for (size_t i = 0; i < 4; i++)
         CHECK(checked_is(vbus_slave_check_figures(table, lengths[i], figures(15, 14, 2)), VBUS_WRONG_TABLE_LENGTH, 0));
     CHECK(memcmp(table, before, sizeof before) == 0);
+    /* no entry is free: 32 and nothing above it; an owner with more than it may hold */
+    fill(table);
+    for (unsigned value = 0; value < 256; value++)
+        CHECK(checked_is(vbus_slave_check_figures(table, n, figures(16, 16, value)), 0, value == 32));
+    for (size_t i = 0; i < VBUS_SLAVES; i++) table[i].owner = true;
+    for (unsigned value = 0; value < 256; value++)
+        CHECK(checked_is(vbus_slave_check_figures(table, n, figures(0, value, 32)), 0, value == 32));
 }
 
 /* With figures that aren't the table's, only 16, the entry taken and the figures afterwards go by them. */
@@ -1023,6 +1030,7 @@ static void false_figures(void) {
         CHECK(slave_is(table[8], 0, false, 0, 0));
         CHECK(kept_is(vbus_slave_remove(table, n, all, false, 0x2200), 0, less, value, value < 16 ? value : 16));
         CHECK(slave_is(table[16], 0, false, 0, 0) && filled(table, 21, ENTRIES));
+        CHECK(kept_is(vbus_slave_remove(table, n, figures(0, 0, value), false, 0x2207), 0, 0, 0, value < 23 ? value : 23));
     }
 }
 
