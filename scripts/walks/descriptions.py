@@ -57,8 +57,8 @@ CALLEES = [
         "slave_plans::remove",
         "slave_figures::behind",
         "slave_figures::occupancy",
-        "slave_figures::entered",
-        "slave_figures::removed",
+        "slave_figures::after_enter",
+        "slave_figures::after_remove",
         "slave_figures::check",
     ]
 ]

@@ -39,7 +39,7 @@ use Rattle.slave_plans.specs.declared.Slave.{Slave}
 use Rattle.slave_plans.specs.declared.Found as SlaveFound
 use Rattle.slave_figures.specs.Keeping.{figuresOf, enterKept, enteredBy, removeKept, checkOf}
 use Rattle.slave_figures.specs.History.{State}
-use Rattle.slave_figures.specs.History as Kept
+use Rattle.slave_figures.specs.History as Keepings
 use Rattle.slave_figures.specs.declared.Figures.{Figures}
 use Rattle.slave_figures.specs.declared.Checked.{Checked}
 
@@ -195,9 +195,9 @@ answer (countFigures t) = figuresTold (figuresOf t)
 answer (enterBy f s t) = let kept = enterKept f s t in kept .number ∷ (figuresTold (kept .figures) ++ tableTold (enteredBy f s t))
 answer (removeBy f o a t) = let kept = removeKept f o a t in kept .number ∷ (figuresTold (kept .figures) ++ tableTold (removed o a t))
 answer (checkFigures f t) = checkedTold (checkOf f t)
-answer (answeredBy o history) = answersTold (Kept.answersOf o history)
-answer (leftBy history) = stateTold (Kept.stateOf history)
-answer (ownedBy o history) = ownTold (Kept.ownHistory o history)
+answer (answeredBy o history) = answersTold (Keepings.answersOf o history)
+answer (leftBy history) = stateTold (Keepings.stateOf history)
+answer (ownedBy o history) = ownTold (Keepings.ownHistory o history)
 answer (verdict v) = number v ∷ []
 
 -- a question and the answer that the papers give

@@ -1,9 +1,9 @@
 -- Request No. 9 of any figures at all: nothing goes out of range, and only 16, the entry taken and the figures afterwards depend on them.
-use Prim.Native.Nat.{ℕ, suc, _-_, _<_, _^_}
+use Prim.Native.Nat.{ℕ, suc, _-_, _≤_, _<_, _^_}
 use native.Mathlib.Omega.{arith}
 use native.Mathlib.Decide.{ℕ-discrete}
 use mathlib.Core.Path.{_≡_, refl, sym, ap, subst, _∙_}
-use mathlib.Core.Logic.{_≢_, _⊎_, inl, inr, dite}
+use mathlib.Core.Logic.{_≢_, _↔_, _⊎_, inl, inr, dite}
 use mathlib.Core.Bool.{Bool, true, false, not, Bool-discrete}
 use mathlib.Core.List.{List}
 use lib.Dec.{eqb, ltb}
@@ -13,18 +13,19 @@ use Rattle.basics.specs.Choice.{choose}
 use Rattle.basics.proofs.Choice.{choose-by}
 use Rattle.basics.proofs.Table.{when-none, when-refused}
 use Rattle.slave_id.specs.SlaveId.{tooWide}
+use Rattle.slave_id.proofs.Writing.{wide-exactly}
 use Rattle.slave_plans.specs.Table.{none, isFree, hasAddress, indexOf}
 use Rattle.slave_plans.specs.Answer.{notSlave, isFull, foundOf, changeRefusal, removeRefusal}
-use Rattle.slave_plans.specs.History.{Operation, Enter, Find, Change, Remove, numberAlone}
+use Rattle.slave_plans.specs.History.{Operation, Enter, Find, Change, Remove, ownerOf, numberAlone}
 use Rattle.slave_plans.specs.declared.Slave.{Slave}
 use Rattle.slave_plans.specs.declared.Occupancy.{Occupancy}
 use Rattle.slave_plans.specs.declared.Found.{Found}
-use Rattle.slave_plans.proofs.Addresses.{slave-exactly, slave-nonzero}
+use Rattle.slave_plans.proofs.Addresses.{SlaveAddress, slave-exactly, slave-nonzero}
 use Rattle.slave_plans.proofs.Entries.{false-unless, free-exactly, address-exactly, other-address}
-use Rattle.slave_plans.proofs.Indices.{lowest-nowhere, from-here, from-most}
-use Rattle.slave_plans.proofs.Refusals.{enter-lines, enter-room}
+use Rattle.slave_plans.proofs.Indices.{Nowhere, lowest-nowhere, lowest-none, from-here, from-lower, from-none, from-most}
+use Rattle.slave_plans.proofs.Refusals.{enter-lines, enter-room, full-lines, full-either}
 use Rattle.slave_plans.proofs.Finding.{identifiers}
-use Rattle.slave_plans.proofs.Operations.{put-found, zero-found, put-unfound}
+use Rattle.slave_plans.proofs.Operations.{put-found, zero-found, put-unfound, neighbour-found, Once, once-kept, put-once, nowhere-at}
 use Rattle.slave_plans.proofs.Isolation.{Parted, SameOrParted, last-parts}
 use Rattle.slave_figures.specs.Keeping.{figuresOf, heldBy, freeBy, occupancyBy, figuresWith, enterRefusalBy}
 use Rattle.slave_figures.specs.History.{State, answerIn, stateAfter}
@@ -91,20 +92,67 @@ module _ (slave : Slave) (s : State) where
   abbrev t : List Slave
   t = s .table
 
-  -- "entering takes only a free entry", one in the table
+  -- no entry from the figures' lowest on is free
+  abbrev pub NoneFrom : Type 0
+  NoneFrom = (k : ℕ) → s .figures .lowest ≤ k → k < length t → isFree (getD t k none) ≡ false
+
+  -- 16 comes by the figures: "exactly when it holds 24 or more, or no entry is free", as they say
+  pub record FullBy : Type 0 where
+    pub size : length t ≡ 32
+    pub address : SlaveAddress (slave .address)
+    pub product : slave .product < 2 ^ 24
+    pub device : slave .device < 2 ^ 24
+    pub fresh : Nowhere (hasAddress (slave .owner) (slave .address)) t
+    pub full : (24 ≤ heldBy (slave .owner) (s .figures)) ⊎ NoneFrom
+
+  abbrev occupancy : Occupancy
+  occupancy = occupancyBy (slave .owner) (s .figures) t
+
+  abbrev stands : ℕ
+  stands = indexOf (slave .owner) (slave .address) t
+
+  none-left : (24 ≤ occupancy .held) ⊎ (length t ≤ occupancy .free) → (24 ≤ occupancy .held) ⊎ NoneFrom
+  none-left (inl many) = inl many
+  none-left (inr past) = inr (from-none isFree (s .figures .lowest) t .0 past)
+
+  past-end : (24 ≤ occupancy .held) ⊎ NoneFrom → (24 ≤ occupancy .held) ⊎ (length t ≤ occupancy .free)
+  past-end (inl many) = inl many
+  past-end (inr none-free) = inr (from-none isFree (s .figures .lowest) t .1 none-free)
+
+  pub full-by : (answerIn (Enter slave) s .number ≡ 16) ↔ FullBy
+  unfolding enterRefusalBy
+  full-by = (
+    λ e.
+        let (size, address, narrow, fresh, full) = full-lines (length t) stands occupancy slave .0 e in
+        let bounds = wide-exactly (slave .product) (slave .device) .0 narrow in
+        record {
+          size = size;
+          address = slave-exactly (slave .address) .0 address;
+          product = bounds .0;
+          device = bounds .1;
+          fresh = lowest-nowhere (hasAddress (slave .owner) (slave .address)) t fresh;
+          full = none-left (full-either (length t) occupancy .0 full);
+        },
+    λ r.
+        full-lines (length t) stands occupancy slave .1 (
+          r .size,
+          slave-exactly (slave .address) .1 (r .address),
+          wide-exactly (slave .product) (slave .device) .1 (r .product, r .device),
+          omega (arith, lowest-none (hasAddress (slave .owner) (slave .address)) t (r .fresh)),
+          full-either (length t) occupancy .1 (past-end (r .full)),
+        ),
+  )
+
+  -- "entering takes only a free entry", one in the table: the lowest from the figures' on
   pub record Takes (at : ℕ) : Type 0 where
     pub inside : at < length t
     pub free : isFree (getD t at none) ≡ true
+    pub from : s .figures .lowest ≤ at
+    pub lower : (k : ℕ) → s .figures .lowest ≤ k → k < at → isFree (getD t k none) ≡ false
     pub put : stateAfter (Enter slave) s .table ≡ set t at slave
 
   module _ (accepted : answerIn (Enter slave) s .number ≡ 0) where
-    abbrev occupancy : Occupancy
-    occupancy = occupancyBy (slave .owner) (s .figures) t
-
-    abbrev stands : ℕ
-    stands = indexOf (slave .owner) (slave .address) t
-
-    pub room : (length t ≡ 32) × (occupancy .held < 24) × (occupancy .free < length t)
+    room : (length t ≡ 32) × (occupancy .held < 24) × (occupancy .free < length t)
     unfolding enterRefusalBy
     room = enter-room (length t) stands occupancy slave accepted
 
@@ -115,6 +163,8 @@ module _ (slave : Slave) (s : State) where
           record {
             inside = inside;
             free = from-here isFree (s .figures .lowest) t inside;
+            from = omega arith;
+            lower = from-lower isFree (s .figures .lowest) t;
             put = when-none (enterRefusalBy (s .figures) slave t) _ t accepted;
           },
         )
@@ -198,3 +248,30 @@ in-range (Remove o a) s r =
     with-in-range o _ _ (s .figures) (omega (arith, held-in-range o (s .figures) r))
     (choose-by (λ (n : ℕ). n < 2 ^ 8) (ltb (indexOf o a (s .table)) (s .figures .lowest)) (λ lower. omega (arith, ltb-true (indexOf o a (s .table)) (s .figures .lowest) lower, r .lowest)) (λ higher. r .lowest)) r)
     (λ refused. r)
+
+-- ── No. 7 and No. 8, of any table and any figures
+
+-- what an owner finds is untouched by the other's operations
+pub any-neighbour : (op : Operation) (s : State) (o : Bool) (a : ℕ) → ownerOf op ≢ o → foundOf o a (stateAfter op s .table) ≡ foundOf o a (s .table)
+any-neighbour (Enter slave) s o a other =
+    dite (ℕ-discrete (answerIn (Enter slave) s .number) 0)
+    (λ e. taken-others slave s e o a (λ (own, at). other (sym own)))
+    (λ r. ap (λ (x : State). foundOf o a (x .table)) (refusal-nothing (Enter slave) s r))
+any-neighbour (Find o′ a′) s o a other = refl
+any-neighbour (Change o′ from to) s o a other = neighbour-found (Change o′ from to) (s .table) o a other
+any-neighbour (Remove o′ a′) s o a other = neighbour-found (Remove o′ a′) (s .table) o a other
+
+-- no owner comes to have an address twice
+pub any-once : (op : Operation) (s : State) → Once (s .table) → Once (stateAfter op s .table)
+unfolding enterRefusalBy
+any-once (Enter slave) s once =
+    dite (ℕ-discrete (answerIn (Enter slave) s .number) 0)
+    (λ e.
+    let (at, takes) = free-only slave s e in
+    let (size, address, narrow, fresh, roomy) = enter-lines (length (s .table)) (indexOf (slave .owner) (slave .address) (s .table)) (occupancyBy (slave .owner) (s .figures) (s .table)) slave e in
+    subst Once (sym (takes .put)) (put-once (s .table) at slave (takes .inside) once
+    (λ k other some there own. nowhere-at (slave .owner) (slave .address) (s .table) (lowest-nowhere (hasAddress (slave .owner) (slave .address)) (s .table) fresh) some k there own)))
+    (λ r. subst Once (sym (ap (λ (x : State). x .table) (refusal-nothing (Enter slave) s r))) once)
+any-once (Find o a) s once = once
+any-once (Change o from to) s once = once-kept (Change o from to) (s .table) once
+any-once (Remove o a) s once = once-kept (Remove o a) (s .table) once

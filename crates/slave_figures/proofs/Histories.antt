@@ -1,5 +1,5 @@
--- Requests No. 8 and No. 9 over histories of calls, each with the figures that the one before gave back: from the empty table with its zeros on
--- the figures stay true, so that No. 8's theorems hold of the calls' own answers.
+-- Requests No. 8 and No. 9 over histories of calls, each with the figures that the one before gave back: from true ones on, such as the empty
+-- table's zeros, they stay true, so that No. 8's theorems hold of what the calls answer.
 use Prim.Native.Nat.{_≤_, _<_}
 use mathlib.Core.Path.{_≡_, refl, sym, ap, subst, _∙_}
 use mathlib.Core.Logic.{_≢_, _⊎_}
@@ -20,12 +20,13 @@ use Rattle.slave_figures.proofs.TrueFigures.{counted, True, figures-emp
 
 -- ── as by counting
 
-states-counted : (t : List Slave) (h : List Operation) → stateFrom (counted t) h ≡ counted (tableFrom t h)
+-- from any table with true figures
+pub states-counted : (t : List Slave) (h : List Operation) → stateFrom (counted t) h ≡ counted (tableFrom t h)
 unfolding stateFrom tableFrom
 states-counted t [] = refl
 states-counted t (op ∷ h) = ap (λ (s : State). stateFrom s h) (state-counted op t) ∙ states-counted (tableAfter op t) h
 
-answers-counted-from : (owner : Bool) (t : List Slave) (h : List Operation) → answersFrom owner (counted t) h ≡ counting.answersFrom owner t h
+pub answers-counted-from : (owner : Bool) (t : List Slave) (h : List Operation) → answersFrom owner (counted t) h ≡ counting.answersFrom owner t h
 unfolding answersFrom counting.answersFrom
 answers-counted-from owner t [] = refl
 answers-counted-from owner t (op ∷ h) =

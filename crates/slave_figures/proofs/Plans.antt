@@ -3,7 +3,7 @@ use Prim.Native.Nat.{ℕ, _+_, _≤_, _<_}
 use native.Mathlib.Omega.{arith}
 use mathlib.Core.Path.{_≡_}
 use mathlib.Core.Logic.{_≢_}
-use mathlib.Core.Bool.{Bool, true, false}
+use mathlib.Core.Bool.{Bool, true, false, _&&_}
 use lib.Dec.{eqb, ltb}
 use borrow.Author.Tests.{eq-eqb, ne-eqb, lt-ltb, le-ltb}
 use Rattle.basics.specs.Choice.{choose}
@@ -79,8 +79,8 @@ module _ (counted figures : Figures) where
     pub other-yes : counted .yes ≢ figures .yes → false ≡ sameFigures counted figures
     other-yes n = rw (eq-eqb _ _ no, ne-eqb _ _ n)
 
-    pub same-lowest : counted .yes ≡ figures .yes → eqb (counted .lowest) (figures .lowest) ≡ sameFigures counted figures
-    same-lowest both = rw (eq-eqb _ _ no, eq-eqb _ _ both)
+    pub both-same : counted .yes ≡ figures .yes → (rest : Bool) → rest ≡ (eqb (counted .no) (figures .no) && (eqb (counted .yes) (figures .yes) && rest))
+    both-same both rest = rw (eq-eqb _ _ no, eq-eqb _ _ both)
 
   module _ (size : ℕ) where
     pub check-24 : size ≢ 32 → record { number = 24; right = false } ≡ checkBy size counted figures

@@ -8,7 +8,7 @@ use Rattle.slave_figures.specs.Keeping.{heldBy, figuresWith, keptBy, fig
 use Rattle.slave_figures.specs.declared.Figures.{Figures}
 use Rattle.slave_figures.specs.declared.Kept.{Kept}
 
--- where the search for the next free entry begins. It stops at the last number of eight bits; an entry's index doesn't come so far
+-- where the search for the next free entry begins, in eight bits: an entry's index is far below 255
 abbrev pub indexBehind : ℕ → ℕ
 indexBehind index = choose (ltb index 255) (suc index) 255
 
@@ -16,7 +16,7 @@ indexBehind index = choose (ltb index 255) (suc index) 255
 abbrev pub freeOr32 : ℕ → ℕ
 freeOr32 index = choose (ltb index 32) index 32
 
--- from the next free entry. The number wraps, since any may be handed in; where entering isn't refused it doesn't come so far
+-- from the next free entry. The number wraps, since any may be handed in; an owner with so great a number is refused
 abbrev pub enterFigures : ℕ → Figures → Bool → ℕ → Kept
 enterFigures refusal figures owner next = keptBy refusal (figuresWith owner ((heldBy owner figures + 1) % 2 ^ 8) (freeOr32 next) figures) figures
 
@@ -26,4 +26,4 @@ removeFigures refusal figures owner index = keptBy refusal (figuresLess owner in
 
 -- the figures by what was counted for the two owners
 abbrev pub figuresCounted : Occupancy → Occupancy → Figures
-figuresCounted first second = record { no = first .held; yes = second .held; lowest = first .free }
+figuresCounted of-no of-yes = record { no = of-no .held; yes = of-yes .held; lowest = of-no .free }

@@ -101,8 +101,8 @@ fn free_or_32(index: usize) -> u8
     32
 }
 
-// The figures after entering, from the next free entry. Where that isn't refused, the number is far from where it wraps.
-pub fn entered(number: u32, figures: Figures, owner: bool, next: usize) -> Kept
+// The figures after entering, from the next free entry. An owner whose number would wrap is refused.
+pub fn after_enter(number: u32, figures: Figures, owner: bool, next: usize) -> Kept
     ensures { λ r. ⌜ r ≡ enterFigures number figures owner next ⌝ }
 {
     let more = std::num::wrapping_add_u8(held(figures, owner), 1);
@@ -110,7 +110,7 @@ pub fn entered(number: u32, figures: Figures, owner: bool, next: usize) -> Kept
     answer(number, after, figures)
 }
 
-// One less. An owner with an entry to be removed holds 0 by false figures alone; it stays 0.
+// One less; 0 stays 0. Only false figures have 0 for an owner with an entry to remove.
 fn one_less(held: u8) -> u8
     ensures { λ r. ⌜ r ≡ held - 1 ⌝ }
 {
@@ -131,7 +131,7 @@ fn lower(index: usize, lowest: u8) -> u8
 }
 
 // The figures after removing, where the entry at an index is free now.
-pub fn removed(number: u32, figures: Figures, owner: bool, index: usize) -> Kept
+pub fn after_remove(number: u32, figures: Figures, owner: bool, index: usize) -> Kept
     ensures { λ r. ⌜ r ≡ removeFigures number figures owner index ⌝ }
 {
     let less = one_less(held(figures, owner));

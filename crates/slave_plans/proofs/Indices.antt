@@ -4,8 +4,8 @@ use native.Mathlib.Omega.{arith}
 use native.Mathlib.Nat.{not-suc-le-zero, le-of-suc-le-suc}
 use mathlib.Core.Path.{_≡_, refl, sym, ap, subst, _∙_}
 use native.Mathlib.Decide.{decLt}
-use mathlib.Core.Logic.{dite}
-use mathlib.Core.Bool.{Bool, true, false}
+use mathlib.Core.Logic.{_↔_, dite}
+use mathlib.Core.Bool.{Bool, true, false, true≢false}
 use mathlib.Core.List.{List, [], _∷_}
 use lib.Dec.{ltb}
 use lib.ListN.{length, getD, set}
@@ -105,6 +105,27 @@ module _ (test : Slave → Bool) where
       lowest-most (e ∷ t) = by-test (test e) (λ y. rw (lowest-first e t y) (omega arith)) (λ n. rw (lowest-next e t n) (omega (arith, lowest-most t)))
   from-most (suc start) [] l = absurd (not-suc-le-zero l)
   from-most (suc start) (e ∷ t) l = omega (arith, from-most start t (le-of-suc-le-suc l))
+
+  -- none from the start up to it passes
+  pub from-lower : (start : ℕ) (t : List Slave) (k : ℕ) → start ≤ k → k < lowestFrom start test t → test (getD t k none) ≡ false
+  unfolding lowest
+  from-lower zero t k from below =
+      dite (decLt (lowest test t) (length t))
+      (λ l. lowest-here t l .lower k (omega (arith, below)))
+      (λ past. lowest-nowhere t (omega (arith, past)) k (omega (arith, below, from-most 0 t (omega arith))))
+  from-lower (suc start) [] k from below = absurd (omega (arith, from, below))
+  from-lower (suc start) (e ∷ t) zero from below = absurd (not-suc-le-zero from)
+  from-lower (suc start) (e ∷ t) (suc k) from below = from-lower start t k (le-of-suc-le-suc from) (omega (arith, below))
+
+  -- it is past the end exactly if none from the start on passes
+  pub from-none : (start : ℕ) (t : List Slave) → (length t ≤ lowestFrom start test t) ↔ ((k : ℕ) → start ≤ k → k < length t → test (getD t k none) ≡ false)
+  from-none start t = (
+    λ past k from inside. from-lower start t k from (omega (arith, past, inside)),
+    λ none-passes.
+        dite (decLt (lowestFrom start test t) (length t))
+        (λ l. absurd (true≢false (sym (from-here start t l) ∙ none-passes (lowestFrom start test t) (omega arith) l)))
+        (λ past. omega (arith, past)),
+  )
 
   -- from the lowest on it is found
   pub from-lowest : (t : List Slave) → lowestFrom (lowest test t) test t ≡ lowest test t

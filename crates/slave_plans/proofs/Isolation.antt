@@ -37,10 +37,10 @@ abbrev pub SameOrParted : ℕ → ℕ → Type 0
 SameOrParted n n′ = (n ≡ n′) ⊎ Parted n n′
 
 -- entering is answered the same in both, or so, where all lines before 16 are alike
-abbrev pub number : Bool → Bool → Bool → Bool → ℕ
-number x y z full = first ((x, 14) ∷ (y, 18) ∷ (z, 15) ∷ (full, 16) ∷ [])
+abbrev pub enterNumber : Bool → Bool → Bool → Bool → ℕ
+enterNumber x y z full = first ((x, 14) ∷ (y, 18) ∷ (z, 15) ∷ (full, 16) ∷ [])
 
-pub last-parts : (x y z w w′ : Bool) → SameOrParted (number x y z w) (number x y z w′)
+pub last-parts : (x y z w w′ : Bool) → SameOrParted (enterNumber x y z w) (enterNumber x y z w′)
 unfolding choose
 last-parts true y z w w′ = inl refl
 last-parts false true z w w′ = inl refl
@@ -61,9 +61,9 @@ module _ (t t′ : List Slave) where
       let z = finds (s .owner) (s .address) t′ in
       let w = isFull (length t) (occupancyOf (s .owner) t) in
       let w′ = isFull (length t′) (occupancyOf (s .owner) t′) in
-      let left : enterRefusal s t ≡ number x y z w = enter-by-finds s t (alike .here .size) ∙ ap (λ (found : Bool). number x y found w) (found-same alike (s .address)) in
-      let right : enterRefusal s t′ ≡ number x y z w′ = enter-by-finds s t′ (alike .there .size) in
-      subst (λ (n : ℕ). SameOrParted n (enterRefusal s t′)) (sym left) (subst (SameOrParted (number x y z w)) (sym right) (last-parts x y z w w′))
+      let left : enterRefusal s t ≡ enterNumber x y z w = enter-by-finds s t (alike .here .size) ∙ ap (λ (found : Bool). enterNumber x y found w) (found-same alike (s .address)) in
+      let right : enterRefusal s t′ ≡ enterNumber x y z w′ = enter-by-finds s t′ (alike .there .size) in
+      subst (λ (n : ℕ). SameOrParted n (enterRefusal s t′)) (sym left) (subst (SameOrParted (enterNumber x y z w)) (sym right) (last-parts x y z w w′))
 
   change-alike : (o : Bool) (from to : ℕ) → Alike o t t′ → changeRefusal o from to t ≡ changeRefusal o from to t′
   change-alike o from to alike =

@@ -252,7 +252,7 @@ module _ (t : List Slave) (j : ℕ) (e : Slave) (inside : j < length t) (once : 
   clash i k at other some same own =
       alone k other (λ z. some (address (here i at) ∙ z)) (sym (address (there k other)) ∙ sym same ∙ address (here i at)) (sym (owner (there k other)) ∙ sym own ∙ owner (here i at))
 
-  put-once : Once put
+  pub put-once : Once put
   put-once i k some same own =
       dite (ℕ-discrete i j)
       (λ i-at. dite (ℕ-discrete k j) (λ k-at. i-at ∙ sym k-at) (λ k-other. absurd (clash i k i-at k-other some same own)))
@@ -263,7 +263,7 @@ module _ (t : List Slave) (j : ℕ) (e : Slave) (inside : j < length t) (once : 
       (sym (owner (there i i-other)) ∙ own ∙ owner (there k k-other))))
 
 -- an owner's address that no entry inside has, no entry at all has, unless it is 0
-nowhere-at : (o : Bool) (a : ℕ) (t : List Slave) → Nowhere (hasAddress o a) t → a ≢ 0 → (k : ℕ) → addressAt t k ≡ a → ownerAt t k ≡ o → ⊥
+pub nowhere-at : (o : Bool) (a : ℕ) (t : List Slave) → Nowhere (hasAddress o a) t → a ≢ 0 → (k : ℕ) → addressAt t k ≡ a → ownerAt t k ≡ o → ⊥
 nowhere-at o a t nowhere some k at own =
     dite (decLt k (length t))
     (λ inside. true≢false (sym (address-exactly (getD t k none) o a .1 (own, at)) ∙ nowhere k inside))

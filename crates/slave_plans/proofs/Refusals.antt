@@ -59,6 +59,18 @@ taken-exactly o from to t = (
       (λ new. sym (taken-other (length t) (indexOf o to t) from to new) ∙ le-ltb _ _ (nowhere-beyond (hasAddress o to) t (fresh new))),
 )
 
+-- 16's test, of any occupancy
+pub full-either : (size : ℕ) (occupancy : Occupancy) → (isFull size occupancy ≡ true) ↔ ((24 ≤ occupancy .held) ⊎ (size ≤ occupancy .free))
+full-either size occupancy = (
+  λ e. dite (decLt (occupancy .held) 24) (λ few. inr (leb-true _ _ (full-free size occupancy few ∙ e))) (λ many. inl (omega (arith, many))),
+  λ full. go full,
+)
+  where
+    go : (24 ≤ occupancy .held) ⊎ (size ≤ occupancy .free) → isFull size occupancy ≡ true
+    go (inl many) = sym (full-held size occupancy many)
+    go (inr none) =
+        dite (decLt (occupancy .held) 24) (λ few. sym (full-free size occupancy few) ∙ le-leb _ _ none) (λ many. sym (full-held size occupancy (omega (arith, many))))
+
 module _ (o : Bool) (t : List Slave) where
   abbrev occupancy : Occupancy
   occupancy = occupancyOf o t
@@ -67,20 +79,15 @@ module _ (o : Bool) (t : List Slave) where
   Full = (24 ≤ count (belongsTo o) t) ⊎ Nowhere isFree t
 
   full-exactly : (isFull (length t) occupancy ≡ true) ↔ Full
-  full-exactly = (
-    λ e.
-        dite (decLt (occupancy .held) 24)
-        (λ few. inr (lowest-nowhere isFree t (leb-true _ _ (full-free (length t) occupancy few ∙ e))))
-        (λ many. inl (omega (arith, many))),
-    λ full. go full,
-  )
+  full-exactly = (λ e. seen (full-either (length t) occupancy .0 e), λ full. full-either (length t) occupancy .1 (said full))
     where
-      go : Full → isFull (length t) occupancy ≡ true
-      go (inl many) = sym (full-held (length t) occupancy many)
-      go (inr none) =
-          dite (decLt (occupancy .held) 24)
-          (λ few. sym (full-free (length t) occupancy few) ∙ le-leb _ _ (nowhere-beyond isFree t none))
-          (λ many. sym (full-held (length t) occupancy (omega (arith, many))))
+      seen : (24 ≤ occupancy .held) ⊎ (length t ≤ occupancy .free) → Full
+      seen (inl many) = inl many
+      seen (inr none) = inr (lowest-nowhere isFree t none)
+
+      said : Full → (24 ≤ occupancy .held) ⊎ (length t ≤ occupancy .free)
+      said (inl many) = inl many
+      said (inr none) = inr (nowhere-beyond isFree t none)
 
   roomy-exactly : (isFull (length t) occupancy ≡ false) ↔ ((count (belongsTo o) t < 24) × Somewhere isFree t)
   roomy-exactly = (
@@ -217,42 +224,16 @@ module _ (s : Slave) (t : List Slave) where
         unfolding enterRefusal
         enter-taken held = sym (enter-15 (length t) at (occupancyOf (s .owner) t) s size slave narrow (somewhere-inside named t held))
 
--- 16 comes where no line before it applies, and then "exactly when it holds 24 or more, or no entry is free"
-pub record RefusedFull (s : Slave) (t : List Slave) : Type 0 where
-  pub size : length t ≡ 32
-  pub address : SlaveAddress (s .address)
-  pub product : s .product < 2 ^ 24
-  pub device : s .device < 2 ^ 24
-  pub fresh : Nowhere (hasAddress (s .owner) (s .address)) t
-  pub full : (24 ≤ count (belongsTo (s .owner)) t) ⊎ Nowhere isFree t
-
-pub enter-full : (s : Slave) (t : List Slave) → (enterRefusal s t ≡ 16) ↔ RefusedFull s t
-unfolding enterRefusal choose
-enter-full s t = (
+-- 16 comes where no line before it applies and the occupancy, whichever it is, says so
+pub full-lines : (size at : ℕ) (occupancy : Occupancy) (s : Slave)
+    → (first (enterLines size at occupancy s) ≡ 16)
+    ↔ ((size ≡ 32) × (notSlave (s .address) ≡ false) × (tooWide (s .product) (s .device) ≡ false) × (size ≤ at) × (isFull size occupancy ≡ true))
+unfolding choose
+full-lines size at occupancy s = (
   λ e.
-      let (size, address, narrow, fresh, full) = last-applies (not (eqb (length t) 32)) (notSlave (s .address)) (tooWide (s .product) (s .device)) (ltb (at s t) (length t)) _ e in
-      let bounds = wide-exactly (s .product) (s .device) .0 narrow in
-      record {
-        size = length-exactly (length t) .0 size;
-        address = slave-exactly (s .address) .0 address;
-        product = bounds .0;
-        device = bounds .1;
-        fresh = lowest-nowhere (named s t) t (ltb-false _ _ fresh);
-        full = full-exactly (s .owner) t .0 full;
-      },
-  λ r.
-      sym (
-      enter-16
-      (length t)
-      (at s t)
-      (occupancyOf (s .owner) t)
-      s
-      (r .size)
-      (slave-exactly (s .address) .1 (r .address))
-      (wide-exactly (s .product) (s .device) .1 (r .product, r .device))
-      (nowhere-beyond (named s t) t (r .fresh))
-      (full-exactly (s .owner) t .1 (r .full))
-      ),
+      let (right, address, narrow, fresh, full) = last-applies (not (eqb size 32)) (notSlave (s .address)) (tooWide (s .product) (s .device)) (ltb at size) (isFull size occupancy) e in
+      (length-exactly size .0 right, address, narrow, ltb-false at size fresh, full),
+  λ (right, address, narrow, fresh, full). sym (enter-16 size at occupancy s right address narrow fresh full),
 )
   where
     last-applies : (a b c d full : Bool) → first ((a, 24) ∷ (b, 14) ∷ (c, 18) ∷ (d, 15) ∷ (full, 16) ∷ []) ≡ 16
@@ -263,6 +244,39 @@ enter-full s t = (
     last-applies false false false true full e = absurd (omega (arith, e))
     last-applies false false false false true e = (refl, refl, refl, refl, refl)
     last-applies false false false false false e = absurd (omega (arith, e))
+
+-- so by counting "exactly when it holds 24 or more, or no entry is free"
+pub record RefusedFull (s : Slave) (t : List Slave) : Type 0 where
+  pub size : length t ≡ 32
+  pub address : SlaveAddress (s .address)
+  pub product : s .product < 2 ^ 24
+  pub device : s .device < 2 ^ 24
+  pub fresh : Nowhere (hasAddress (s .owner) (s .address)) t
+  pub full : (24 ≤ count (belongsTo (s .owner)) t) ⊎ Nowhere isFree t
+
+pub enter-full : (s : Slave) (t : List Slave) → (enterRefusal s t ≡ 16) ↔ RefusedFull s t
+unfolding enterRefusal
+enter-full s t = (
+  λ e.
+      let (size, address, narrow, fresh, full) = full-lines (length t) (at s t) (occupancyOf (s .owner) t) s .0 e in
+      let bounds = wide-exactly (s .product) (s .device) .0 narrow in
+      record {
+        size = size;
+        address = slave-exactly (s .address) .0 address;
+        product = bounds .0;
+        device = bounds .1;
+        fresh = lowest-nowhere (named s t) t fresh;
+        full = full-exactly (s .owner) t .0 full;
+      },
+  λ r.
+      full-lines (length t) (at s t) (occupancyOf (s .owner) t) s .1 (
+        r .size,
+        slave-exactly (s .address) .1 (r .address),
+        wide-exactly (s .product) (s .device) .1 (r .product, r .device),
+        nowhere-beyond (named s t) t (r .fresh),
+        full-exactly (s .owner) t .1 (r .full),
+      ),
+)
 
 -- ── changing an address
 

@@ -11,7 +11,7 @@ use Rattle.slave_plans.specs.declared.Slave.{Slave}
 use Rattle.slave_plans.specs.declared.Occupancy.{Occupancy}
 use Rattle.slave_plans.specs.declared.Plan.{Plan}
 
--- the first entry that is looked at: in a table of a wrong length none, so that it isn't read before 24 is given
+-- the first entry that is looked at: the start or, in a table of a wrong length, none, so that it isn't read before 24 is given
 abbrev pub searchStart : ℕ → ℕ → ℕ
 searchStart size start = choose (eqb size 32) start size
 

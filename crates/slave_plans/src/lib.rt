@@ -1,5 +1,5 @@
 // What each operation on a table of slaves (requests No. 7 and No. 8) decides, from what crate slaves has seen of the table: its size, the
-// indices where an owner's addresses stand, which are at least the size for an address that stands nowhere, and how much of it is taken.
+// indices where an owner's addresses stand, which are the size for an address that stands nowhere, and how much of it is taken.
 ghost use mathlib.Core.Path.{_≡_};
 ghost use Rattle.basics.specs.Choice.{first};
 ghost use Rattle.slave_plans.specs.Answer.{notSlave, isAbsent, isFull, isTaken, enterLines, findLines, foundBy, changeLines, readdressed};

@@ -1,5 +1,5 @@
 // The table of slaves that two owners share (requests No. 7 to No. 9), lent as a slice of entries. Each function over it is thin and proved
-// by a walk of its MIR; what it decides, crate slave_plans does, on plain values.
+// by a walk of its MIR; what it decides, crates slave_plans and slave_figures do, on plain values.
 ghost use mathlib.Core.Path.{_≡_};
 ghost use lib.ListN.{set, getD};
 ghost use Rattle.slave_plans.specs.Table.{none};
@@ -70,7 +70,7 @@ fn count(table: &[Slave], owner: bool) -> Occupancy
     occupancy
 }
 
-// Enters a slave for its owner as the lowest free entry, and answers 0 or the refusal's number, with the figures afterwards.
+// Enters a slave for its owner as the lowest free entry from the figures' on, and answers 0 or the refusal's number, with the figures afterwards.
 pub fn enter(table: &mut [Slave], figures: Figures, slave: Slave) -> Kept
     ensures { λ r. ⌜ (r ≡ enterKept figures slave (now (table .entry))) × (now (table .exit) ≡ enteredBy figures slave (now (table .entry))) ⌝ }
 {
@@ -80,7 +80,7 @@ pub fn enter(table: &mut [Slave], figures: Figures, slave: Slave) -> Kept
     let next = seek(table, behind, true, false, 0);
     let occupancy = slave_figures::occupancy(figures, slave.owner, free);
     let plan = slave_plans::enter(table.len(), at, occupancy, slave);
-    let kept = slave_figures::entered(plan.number, figures, slave.owner, next);
+    let kept = slave_figures::after_enter(plan.number, figures, slave.owner, next);
     put(table, plan.index, plan.entry);
     kept
 }
@@ -112,7 +112,7 @@ pub fn remove(table: &mut [Slave], figures: Figures, owner: bool, address: u16) 
 {
     let at = seek(table, 0, false, owner, address);
     let plan = slave_plans::remove(table.len(), at, address);
-    let kept = slave_figures::removed(plan.number, figures, owner, at);
+    let kept = slave_figures::after_remove(plan.number, figures, owner, at);
     put(table, plan.index, plan.entry);
     kept
 }

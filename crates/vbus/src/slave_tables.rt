@@ -8,7 +8,7 @@ use slave_figures::Kept;
 use slave_plans::Found;
 use slave_plans::Slave;
 
-// Enters a slave for its owner as the lowest free entry, and answers 0 or the refusal's number, with the figures afterwards.
+// Enters a slave for its owner as the lowest free entry from the figures' on, and answers 0 or the refusal's number, with the figures afterwards.
 #[no_mangle]
 pub extern "C" fn vbus_slave_enter(table: &mut [Slave], figures: Figures, slave: Slave) -> Kept
     ensures { λ r. ⌜ (r ≡ enterKept figures slave (now (table .entry))) × (now (table .exit) ≡ enteredBy figures slave (now (table .entry))) ⌝ }

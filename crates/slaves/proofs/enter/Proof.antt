@@ -66,10 +66,10 @@ use Rattle.slave_plans.proofs.enter as slave-plans-enter
 use Rattle.slave_plans.proofs.enter.Symbol as slave-plans-enter-def
 use Rattle.slave_plans.proofs.enter.Symbol.{name as #slave-plans-enter}
 use Rattle.slave_plans.proofs.enter.Met as slave-plans-enter-thm
-use Rattle.slave_figures.proofs.entered as slave-figures-entered
-use Rattle.slave_figures.proofs.entered.Symbol as slave-figures-entered-def
-use Rattle.slave_figures.proofs.entered.Symbol.{name as #slave-figures-entered}
-use Rattle.slave_figures.proofs.entered.Met as slave-figures-entered-thm
+use Rattle.slave_figures.proofs.after_enter as slave-figures-after-enter
+use Rattle.slave_figures.proofs.after_enter.Symbol as slave-figures-after-enter-def
+use Rattle.slave_figures.proofs.after_enter.Symbol.{name as #slave-figures-after-enter}
+use Rattle.slave_figures.proofs.after_enter.Met as slave-figures-after-enter-thm
 use Rattle.slaves.proofs.put as put
 use Rattle.slaves.proofs.put.Symbol as put-def
 use Rattle.slaves.proofs.put.Symbol.{name as #put}
@@ -118,14 +118,14 @@ module _ {M : Type 1} (𝓤 : URA M) (H : Heap 𝓤) (A : Atoms 𝓤) (mem : Mem
   slave-plans-enter-says y0 y1 y2 y3 r = exE 𝓤 _ (λ ws. snd∗ 𝓤 (sem 𝓤 H A (lasts slave-plans-enter.ended tt (y0, (y1, (y2, (y3, tt)))) ws))
       (fact 𝓤 (r ≡ enterPlan y0 y1 y2 y3)))
 
-  abbrev The-slave-figures-entered : Contract 𝓤
-  The-slave-figures-entered = tripleOf 𝓤 H A slave-figures-entered.signature (slave-figures-entered.spec 𝓤 H A mem run)
+  abbrev The-slave-figures-after-enter : Contract 𝓤
+  The-slave-figures-after-enter = tripleOf 𝓤 H A slave-figures-after-enter.signature (slave-figures-after-enter.spec 𝓤 H A mem run)
 
-  slave-figures-entered-says : (y0 : ℕ) (y1 : Figures) (y2 : Bool) (y3 : ℕ) (r : Kept)
-      → ent 𝓤 (ensured 𝓤 H A slave-figures-entered.ended (slave-figures-entered.clauses 𝓤 H A mem run) tt (y0, (y1, (y2, (y3, tt)))) tt r)
+  slave-figures-after-enter-says : (y0 : ℕ) (y1 : Figures) (y2 : Bool) (y3 : ℕ) (r : Kept)
+      → ent 𝓤 (ensured 𝓤 H A slave-figures-after-enter.ended (slave-figures-after-enter.clauses 𝓤 H A mem run) tt (y0, (y1, (y2, (y3, tt)))) tt r)
       (fact 𝓤 (r ≡ enterFigures y0 y1 y2 y3))
-  slave-figures-entered-says y0 y1 y2 y3 r = exE 𝓤 _
-      (λ ws. snd∗ 𝓤 (sem 𝓤 H A (lasts slave-figures-entered.ended tt (y0, (y1, (y2, (y3, tt)))) ws)) (fact 𝓤 (r ≡ enterFigures y0 y1 y2 y3)))
+  slave-figures-after-enter-says y0 y1 y2 y3 r = exE 𝓤 _
+      (λ ws. snd∗ 𝓤 (sem 𝓤 H A (lasts slave-figures-after-enter.ended tt (y0, (y1, (y2, (y3, tt)))) ws)) (fact 𝓤 (r ≡ enterFigures y0 y1 y2 y3)))
 
   abbrev The-put : Contract 𝓤
   The-put = tripleOf 𝓤 H A put.signature (put.spec 𝓤 H A mem run)
@@ -214,13 +214,13 @@ module _ {M : Type 1} (𝓤 : URA M) (H : Heap 𝓤) (A : Atoms 𝓤) (W : Given
       owned ! usize (Is usize) (uint-makes 𝓤 H A W w64) y1 _ is-y1 $ fjoin ! $ owned ! usize (Is usize) (uint-makes 𝓤 H A W w64) y0 _ is-y0 $
       fjoin ! $ nothing ! $ join ! $ frame ! $ done !
 
-  abbrev to-slave-figures-entered : ℕ → Figures → Bool → ℕ → The-slave-figures-entered 𝓤 H A mem run .Ghost
-  to-slave-figures-entered y0 y1 y2 y3 = ((tt, tt, tt, (y0, (y1, (y2, (y3, tt)))), (uint-vals w32 y0, (figures-vals y1, (bool-vals y2, (uint-vals w64 y3, tt))))), tt)
+  abbrev to-slave-figures-after-enter : ℕ → Figures → Bool → ℕ → The-slave-figures-after-enter 𝓤 H A mem run .Ghost
+  to-slave-figures-after-enter y0 y1 y2 y3 = ((tt, tt, tt, (y0, (y1, (y2, (y3, tt)))), (uint-vals w32 y0, (figures-vals y1, (bool-vals y2, (uint-vals w64 y3, tt))))), tt)
 
-  goes-slave-figures-entered : (y0 : ℕ) (y1 : Figures) (y2 : Bool) (y3 : ℕ) → Is u32 y0 (uint-vals w32 y0) → Is figures-row y1 (figures-vals y1)
+  goes-slave-figures-after-enter : (y0 : ℕ) (y1 : Figures) (y2 : Bool) (y3 : ℕ) → Is u32 y0 (uint-vals w32 y0) → Is figures-row y1 (figures-vals y1)
       → Is bool y2 (bool-vals y2) → Is usize y3 (uint-vals w64 y3)
-      → ent 𝓤 (⋆ 𝓤 H A (‵ ftrue ∷ [])) (The-slave-figures-entered 𝓤 H A mem run .pre (to-slave-figures-entered y0 y1 y2 y3))
-  goes-slave-figures-entered y0 y1 y2 y3 is-y0 is-y1 is-y2 is-y3 =
+      → ent 𝓤 (⋆ 𝓤 H A (‵ ftrue ∷ [])) (The-slave-figures-after-enter 𝓤 H A mem run .pre (to-slave-figures-after-enter y0 y1 y2 y3))
+  goes-slave-figures-after-enter y0 y1 y2 y3 is-y0 is-y1 is-y2 is-y3 =
       qed W (‵ ftrue ∷ []) ∵
       owned ! usize (Is usize) (uint-makes 𝓤 H A W w64) y3 _ is-y3 $ fjoin ! $ owned ! bool (Is bool) (bool-makes 𝓤 H A W) y2 _ is-y2 $ fjoin ! $
       owned ! figures-row (Is figures-row) (figures-makes 𝓤 H A) y1 _ is-y1 $ fjoin ! $ owned ! u32 (Is u32) (uint-makes 𝓤 H A W w32) y0 _ is-y0 $
@@ -242,7 +242,7 @@ module _ {M : Type 1} (𝓤 : URA M) (H : Heap 𝓤) (A : Atoms 𝓤) (W : Given
       (known-slave-figures-behind : Triple 𝓤 (C #slave-figures-behind) (The-slave-figures-behind 𝓤 H A mem run))
       (known-slave-figures-occupancy : Triple 𝓤 (C #slave-figures-occupancy) (The-slave-figures-occupancy 𝓤 H A mem run))
       (known-slave-plans-enter : Triple 𝓤 (C #slave-plans-enter) (The-slave-plans-enter 𝓤 H A mem run))
-      (known-slave-figures-entered : Triple 𝓤 (C #slave-figures-entered) (The-slave-figures-entered 𝓤 H A mem run))
+      (known-slave-figures-after-enter : Triple 𝓤 (C #slave-figures-after-enter) (The-slave-figures-after-enter 𝓤 H A mem run))
       (known-put : Triple 𝓤 (C #put) (The-put 𝓤 H A mem run)) where
     -- of a result r: u-r is its machine value, e-r what the callee ensures of it, is-r and ok-r that it is a value of its type
     walk : ent 𝓤 (onEntry 𝓤 H A f.signature (κ, tt) (q, tt) (x γ, (figures, (slave, tt))) given)
@@ -399,23 +399,23 @@ module _ {M : Type 1} (𝓤 : URA M) (H : Heap 𝓤) (A : Atoms 𝓤) (W : Given
         let ok-plan = subst (Is plan-row plan) (plan-tells plan _ is-plan) is-plan in
         land ! (from ! (stop !)) (init ! 26 refl (plan-lawful 𝓤 H A W .typed plan _ is-plan .0)) $ drop ! $
         rewrite ! 25 (λ (z : Val). ‵ (fat fullShare plan-mir l₉ 0 z)) (ap only (plan-tells plan _ is-plan)) refl $
-        -- `entered`, by value
+        -- `after_enter`, by value
         nothing ! $
-        use1 W (raw (The-slave-figures-entered 𝓤 H A mem run .pre (to-slave-figures-entered (plan .number) figures (slave .owner) next)))
-        (goes-slave-figures-entered (plan .number) figures (slave .owner) next (plan-number plan ok-plan) is-figures
+        use1 W (raw (The-slave-figures-after-enter 𝓤 H A mem run .pre (to-slave-figures-after-enter (plan .number) figures (slave .owner) next)))
+        (goes-slave-figures-after-enter (plan .number) figures (slave .owner) next (plan-number plan ok-plan) is-figures
         (slave-owner slave is-slave) ok-next) $
-        calls-at ! fm (The-slave-figures-entered 𝓤 H A mem run) known-slave-figures-entered
-        (to-slave-figures-entered (plan .number) figures (slave .owner) next)
+        calls-at ! fm (The-slave-figures-after-enter 𝓤 H A mem run) known-slave-figures-after-enter
+        (to-slave-figures-after-enter (plan .number) figures (slave .owner) next)
         (and-then ! (load ! (from ! (fld ! refl (stop !))) (look-in ! 26 (sub ! 0 refl (whole !))))
         (and-then ! (load ! (from ! (stop !)) (look ! 40 refl))
         (and-then ! (load ! (from ! (fld ! refl (stop !))) (look-in ! 38 (sub ! 1 refl (whole !))))
         (and-then ! (load ! (from ! (stop !)) (look ! 30 refl)) (no-more !))))) (λ u-kept.
         use1 W (later (some (λ (kept : Kept). (‵ ftrue ⊛ ‵ (kept-row .own kept (u-kept ∷ [])))
-        ⊛ raw (ensured 𝓤 H A slave-figures-entered.ended (slave-figures-entered.clauses 𝓤 H A mem run) tt
+        ⊛ raw (ensured 𝓤 H A slave-figures-after-enter.ended (slave-figures-after-enter.clauses 𝓤 H A mem run) tt
         (plan .number, (figures, (slave .owner, (next, tt)))) tt kept)))) (id⊢ 𝓤 _) $
         await ! tt $ pick ! (λ kept. split ! $ move ! (1 ∷ []) $
         use1 W (raw (fact 𝓤 (kept ≡ enterFigures (plan .number) figures (slave .owner) next)))
-        (slave-figures-entered-says 𝓤 H A mem run (plan .number) figures (slave .owner) next kept) $
+        (slave-figures-after-enter-says 𝓤 H A mem run (plan .number) figures (slave .owner) next kept) $
         heard ! (kept ≡ enterFigures (plan .number) figures (slave .owner) next) (λ e-kept. split ! $ drop ! $
         peeks ! kept-row (Is kept-row) (shows 𝓤 H A kept-row) kept (u-kept ∷ []) (λ is-kept.
         let ok-kept = subst (Is kept-row kept) (kept-tells kept _ is-kept) is-kept in
@@ -466,26 +466,26 @@ module _ {M : Type 1} (𝓤 : URA M) (H : Heap 𝓤) (A : Atoms 𝓤) (W : Given
       → Triple 𝓤 (C #seek) (The-seek 𝓤 H A mem run) → Triple 𝓤 (C #slave-figures-behind) (The-slave-figures-behind 𝓤 H A mem run)
       → Triple 𝓤 (C #slave-figures-occupancy) (The-slave-figures-occupancy 𝓤 H A mem run)
       → Triple 𝓤 (C #slave-plans-enter) (The-slave-plans-enter 𝓤 H A mem run)
-      → Triple 𝓤 (C #slave-figures-entered) (The-slave-figures-entered 𝓤 H A mem run) → Triple 𝓤 (C #put) (The-put 𝓤 H A mem run)
+      → Triple 𝓤 (C #slave-figures-after-enter) (The-slave-figures-after-enter 𝓤 H A mem run) → Triple 𝓤 (C #put) (The-put 𝓤 H A mem run)
       → Walks 𝓤 H A f.ended stayed (WpFn 𝓤 H C Λ code.function) (f.clauses 𝓤 H A mem run)
-  walks C Λ fm known-seek known-slave-figures-behind known-slave-figures-occupancy known-slave-plans-enter known-slave-figures-entered known-put =
+  walks C Λ fm known-seek known-slave-figures-behind known-slave-figures-occupancy known-slave-plans-enter known-slave-figures-after-enter known-put =
       walked 𝓤 H A f.ended stayed (f.clauses 𝓤 H A mem run) (WpFn 𝓤 H C Λ code.function)
       (λ κs. (slice-vals, (figures-vals, (slave-vals, tt)))) (λ κs. (mut-slice-tells (named 0) (κs .0) slave-row, (figures-tells, (slave-tells, tt))))
       (λ κs qs bounds a g are. via 𝓤 _ (fst∗ 𝓤 _ (emp 𝓤))
       (walk 𝓤 H A W mem run (κs .0) (qs .0) (a .0 .ptr .0) (a .0 .ptr .1) (a .0 .name) (a .0 .now) (a .1 .0) (a .1 .1 .0)
-      (are .0 .0 .1) (are .1 .0) (are .1 .1 .0) C Λ fm known-seek known-slave-figures-behind known-slave-figures-occupancy known-slave-plans-enter known-slave-figures-entered known-put))
+      (are .0 .0 .1) (are .1 .0) (are .1 .1 .0) C Λ fm known-seek known-slave-figures-behind known-slave-figures-occupancy known-slave-plans-enter known-slave-figures-after-enter known-put))
 
 meets : {M : Type 1} (𝓤 : URA M) (H : Heap 𝓤) (A : Atoms 𝓤) → Given 𝓤 H A → (mem : Memory → SProp 𝓤) (run : Routine → Fun 𝓤) (𝓣 : Tables 𝓤 H)
     → Triple 𝓤 (𝓣 .C #seek) (The-seek 𝓤 H A mem run) → Triple 𝓤 (𝓣 .C #slave-figures-behind) (The-slave-figures-behind 𝓤 H A mem run)
     → Triple 𝓤 (𝓣 .C #slave-figures-occupancy) (The-slave-figures-occupancy 𝓤 H A mem run)
     → Triple 𝓤 (𝓣 .C #slave-plans-enter) (The-slave-plans-enter 𝓤 H A mem run)
-    → Triple 𝓤 (𝓣 .C #slave-figures-entered) (The-slave-figures-entered 𝓤 H A mem run) → Triple 𝓤 (𝓣 .C #put) (The-put 𝓤 H A mem run)
+    → Triple 𝓤 (𝓣 .C #slave-figures-after-enter) (The-slave-figures-after-enter 𝓤 H A mem run) → Triple 𝓤 (𝓣 .C #put) (The-put 𝓤 H A mem run)
     → Meets 𝓤 H A f.signature (WpFn 𝓤 H (𝓣 .C) (𝓣 .Λ) code.function) (f.spec 𝓤 H A mem run)
-meets 𝓤 H A W mem run 𝓣 known-seek known-slave-figures-behind known-slave-figures-occupancy known-slave-plans-enter known-slave-figures-entered known-put =
+meets 𝓤 H A W mem run 𝓣 known-seek known-slave-figures-behind known-slave-figures-occupancy known-slave-plans-enter known-slave-figures-after-enter known-put =
     walk-meets 𝓤 H A f.ended stayed W
     (goes-gave-slice 𝓤 H A W 1 0 tt (plain (λ _. slave-row)), (goes-none 𝓤 H A W 1 (λ _. figures-row) yes (λ κs x f. refl), (goes-none 𝓤 H A W 1 (λ _. slave-row) yes (λ κs x f. refl), tt)))
     (f.clauses 𝓤 H A mem run) (WpFn 𝓤 H (𝓣 .C) (𝓣 .Λ) code.function) (WpFn-mono 𝓤 H (W .laws) 𝓣 code.function)
-    (walks 𝓤 H A W mem run (𝓣 .C) (𝓣 .Λ) (fmOf 𝓤 H (W .laws) 𝓣) known-seek known-slave-figures-behind known-slave-figures-occupancy known-slave-plans-enter known-slave-figures-entered known-put)
+    (walks 𝓤 H A W mem run (𝓣 .C) (𝓣 .Λ) (fmOf 𝓤 H (W .laws) 𝓣) known-seek known-slave-figures-behind known-slave-figures-occupancy known-slave-plans-enter known-slave-figures-after-enter known-put)
 
 pub enter-spec : {M : Type 1} → stated.statement M
 unfolding code.routine tablesOf
@@ -501,7 +501,8 @@ enter-spec 𝓤 H 𝓜 𝓖 𝓡 =
     code.calls-slave-figures·occupancy (slave-figures-occupancy-thm.met 𝓤 H 𝓜 𝓖 𝓡))
     (cited 𝓤 H (The-slave-plans-enter 𝓤 H (𝓖 .A) (𝓜 .mem) (𝓡 .run)) 𝓜 𝓡 code.env #slave-plans-enter slave-plans-enter-def.routine
     code.calls-slave-plans·enter (slave-plans-enter-thm.met 𝓤 H 𝓜 𝓖 𝓡))
-    (cited 𝓤 H (The-slave-figures-entered 𝓤 H (𝓖 .A) (𝓜 .mem) (𝓡 .run)) 𝓜 𝓡 code.env #slave-figures-entered slave-figures-entered-def.routine
-    code.calls-slave-figures·entered (slave-figures-entered-thm.met 𝓤 H 𝓜 𝓖 𝓡))
+    (cited 𝓤 H (The-slave-figures-after-enter 𝓤 H (𝓖 .A) (𝓜 .mem)
+    (𝓡 .run)) 𝓜 𝓡 code.env #slave-figures-after-enter slave-figures-after-enter-def.routine
+    code.calls-slave-figures·after-enter (slave-figures-after-enter-thm.met 𝓤 H 𝓜 𝓖 𝓡))
     (cited 𝓤 H (The-put 𝓤 H (𝓖 .A) (𝓜 .mem) (𝓡 .run)) 𝓜 𝓡 code.env #put put-def.routine
     code.calls-slaves·put (put-thm.met 𝓤 H 𝓜 𝓖 𝓡)))

@@ -58,10 +58,10 @@ use Rattle.slave_plans.proofs.remove as slave-plans-remove
 use Rattle.slave_plans.proofs.remove.Symbol as slave-plans-remove-def
 use Rattle.slave_plans.proofs.remove.Symbol.{name as #slave-plans-remove}
 use Rattle.slave_plans.proofs.remove.Met as slave-plans-remove-thm
-use Rattle.slave_figures.proofs.removed as slave-figures-removed
-use Rattle.slave_figures.proofs.removed.Symbol as slave-figures-removed-def
-use Rattle.slave_figures.proofs.removed.Symbol.{name as #slave-figures-removed}
-use Rattle.slave_figures.proofs.removed.Met as slave-figures-removed-thm
+use Rattle.slave_figures.proofs.after_remove as slave-figures-after-remove
+use Rattle.slave_figures.proofs.after_remove.Symbol as slave-figures-after-remove-def
+use Rattle.slave_figures.proofs.after_remove.Symbol.{name as #slave-figures-after-remove}
+use Rattle.slave_figures.proofs.after_remove.Met as slave-figures-after-remove-thm
 use Rattle.slaves.proofs.put as put
 use Rattle.slaves.proofs.put.Symbol as put-def
 use Rattle.slaves.proofs.put.Symbol.{name as #put}
@@ -93,14 +93,14 @@ module _ {M : Type 1} (𝓤 : URA M) (H : Heap 𝓤) (A : Atoms 𝓤) (mem : Mem
   slave-plans-remove-says y0 y1 y2 r = exE 𝓤 _ (λ ws. snd∗ 𝓤 (sem 𝓤 H A (lasts slave-plans-remove.ended tt (y0, (y1, (y2, tt))) ws))
       (fact 𝓤 (r ≡ removePlan y0 y1 y2)))
 
-  abbrev The-slave-figures-removed : Contract 𝓤
-  The-slave-figures-removed = tripleOf 𝓤 H A slave-figures-removed.signature (slave-figures-removed.spec 𝓤 H A mem run)
+  abbrev The-slave-figures-after-remove : Contract 𝓤
+  The-slave-figures-after-remove = tripleOf 𝓤 H A slave-figures-after-remove.signature (slave-figures-after-remove.spec 𝓤 H A mem run)
 
-  slave-figures-removed-says : (y0 : ℕ) (y1 : Figures) (y2 : Bool) (y3 : ℕ) (r : Kept)
-      → ent 𝓤 (ensured 𝓤 H A slave-figures-removed.ended (slave-figures-removed.clauses 𝓤 H A mem run) tt (y0, (y1, (y2, (y3, tt)))) tt r)
+  slave-figures-after-remove-says : (y0 : ℕ) (y1 : Figures) (y2 : Bool) (y3 : ℕ) (r : Kept)
+      → ent 𝓤 (ensured 𝓤 H A slave-figures-after-remove.ended (slave-figures-after-remove.clauses 𝓤 H A mem run) tt (y0, (y1, (y2, (y3, tt)))) tt r)
       (fact 𝓤 (r ≡ removeFigures y0 y1 y2 y3))
-  slave-figures-removed-says y0 y1 y2 y3 r = exE 𝓤 _
-      (λ ws. snd∗ 𝓤 (sem 𝓤 H A (lasts slave-figures-removed.ended tt (y0, (y1, (y2, (y3, tt)))) ws)) (fact 𝓤 (r ≡ removeFigures y0 y1 y2 y3)))
+  slave-figures-after-remove-says y0 y1 y2 y3 r = exE 𝓤 _
+      (λ ws. snd∗ 𝓤 (sem 𝓤 H A (lasts slave-figures-after-remove.ended tt (y0, (y1, (y2, (y3, tt)))) ws)) (fact 𝓤 (r ≡ removeFigures y0 y1 y2 y3)))
 
   abbrev The-put : Contract 𝓤
   The-put = tripleOf 𝓤 H A put.signature (put.spec 𝓤 H A mem run)
@@ -169,13 +169,13 @@ module _ {M : Type 1} (𝓤 : URA M) (H : Heap 𝓤) (A : Atoms 𝓤) (W : Given
       owned ! u16 (Is u16) (uint-makes 𝓤 H A W w16) y2 _ is-y2 $ fjoin ! $ owned ! usize (Is usize) (uint-makes 𝓤 H A W w64) y1 _ is-y1 $ fjoin ! $
       owned ! usize (Is usize) (uint-makes 𝓤 H A W w64) y0 _ is-y0 $ fjoin ! $ nothing ! $ join ! $ frame ! $ done !
 
-  abbrev to-slave-figures-removed : ℕ → Figures → Bool → ℕ → The-slave-figures-removed 𝓤 H A mem run .Ghost
-  to-slave-figures-removed y0 y1 y2 y3 = ((tt, tt, tt, (y0, (y1, (y2, (y3, tt)))), (uint-vals w32 y0, (figures-vals y1, (bool-vals y2, (uint-vals w64 y3, tt))))), tt)
+  abbrev to-slave-figures-after-remove : ℕ → Figures → Bool → ℕ → The-slave-figures-after-remove 𝓤 H A mem run .Ghost
+  to-slave-figures-after-remove y0 y1 y2 y3 = ((tt, tt, tt, (y0, (y1, (y2, (y3, tt)))), (uint-vals w32 y0, (figures-vals y1, (bool-vals y2, (uint-vals w64 y3, tt))))), tt)
 
-  goes-slave-figures-removed : (y0 : ℕ) (y1 : Figures) (y2 : Bool) (y3 : ℕ) → Is u32 y0 (uint-vals w32 y0) → Is figures-row y1 (figures-vals y1)
+  goes-slave-figures-after-remove : (y0 : ℕ) (y1 : Figures) (y2 : Bool) (y3 : ℕ) → Is u32 y0 (uint-vals w32 y0) → Is figures-row y1 (figures-vals y1)
       → Is bool y2 (bool-vals y2) → Is usize y3 (uint-vals w64 y3)
-      → ent 𝓤 (⋆ 𝓤 H A (‵ ftrue ∷ [])) (The-slave-figures-removed 𝓤 H A mem run .pre (to-slave-figures-removed y0 y1 y2 y3))
-  goes-slave-figures-removed y0 y1 y2 y3 is-y0 is-y1 is-y2 is-y3 =
+      → ent 𝓤 (⋆ 𝓤 H A (‵ ftrue ∷ [])) (The-slave-figures-after-remove 𝓤 H A mem run .pre (to-slave-figures-after-remove y0 y1 y2 y3))
+  goes-slave-figures-after-remove y0 y1 y2 y3 is-y0 is-y1 is-y2 is-y3 =
       qed W (‵ ftrue ∷ []) ∵
       owned ! usize (Is usize) (uint-makes 𝓤 H A W w64) y3 _ is-y3 $ fjoin ! $ owned ! bool (Is bool) (bool-makes 𝓤 H A W) y2 _ is-y2 $ fjoin ! $
       owned ! figures-row (Is figures-row) (figures-makes 𝓤 H A) y1 _ is-y1 $ fjoin ! $ owned ! u32 (Is u32) (uint-makes 𝓤 H A W w32) y0 _ is-y0 $
@@ -195,7 +195,7 @@ module _ {M : Type 1} (𝓤 : URA M) (H : Heap 𝓤) (A : Atoms 𝓤) (W : Given
   module _ (C : Calls 𝓤 H) (Λ : Loops 𝓤 H) (fm : FmC 𝓤 H (W .laws) C)
       (known-seek : Triple 𝓤 (C #seek) (The-seek 𝓤 H A mem run))
       (known-slave-plans-remove : Triple 𝓤 (C #slave-plans-remove) (The-slave-plans-remove 𝓤 H A mem run))
-      (known-slave-figures-removed : Triple 𝓤 (C #slave-figures-removed) (The-slave-figures-removed 𝓤 H A mem run))
+      (known-slave-figures-after-remove : Triple 𝓤 (C #slave-figures-after-remove) (The-slave-figures-after-remove 𝓤 H A mem run))
       (known-put : Triple 𝓤 (C #put) (The-put 𝓤 H A mem run)) where
     -- of a result r: u-r is its machine value, e-r what the callee ensures of it, is-r and ok-r that it is a value of its type
     walk : ent 𝓤 (onEntry 𝓤 H A f.signature (κ, tt) (q, tt) (x γ, (figures, (owner, (address, tt)))) given)
@@ -262,20 +262,21 @@ module _ {M : Type 1} (𝓤 : URA M) (H : Heap 𝓤) (A : Atoms 𝓤) (W : Given
         let ok-plan = subst (Is plan-row plan) (plan-tells plan _ is-plan) is-plan in
         land ! (from ! (stop !)) (init ! 18 refl (plan-lawful 𝓤 H A W .typed plan _ is-plan .0)) $ drop ! $
         rewrite ! 17 (λ (z : Val). ‵ (fat fullShare plan-mir l₆ 0 z)) (ap only (plan-tells plan _ is-plan)) refl $
-        -- `removed`, by value
+        -- `after_remove`, by value
         nothing ! $
-        use1 W (raw (The-slave-figures-removed 𝓤 H A mem run .pre (to-slave-figures-removed (plan .number) figures owner at)))
-        (goes-slave-figures-removed (plan .number) figures owner at (plan-number plan ok-plan) is-figures is-owner ok-at) $
-        calls-at ! fm (The-slave-figures-removed 𝓤 H A mem run) known-slave-figures-removed (to-slave-figures-removed (plan .number) figures owner at)
+        use1 W (raw (The-slave-figures-after-remove 𝓤 H A mem run .pre (to-slave-figures-after-remove (plan .number) figures owner at)))
+        (goes-slave-figures-after-remove (plan .number) figures owner at (plan-number plan ok-plan) is-figures is-owner ok-at) $
+        calls-at ! fm (The-slave-figures-after-remove 𝓤 H A mem run) known-slave-figures-after-remove
+        (to-slave-figures-after-remove (plan .number) figures owner at)
         (and-then ! (load ! (from ! (fld ! refl (stop !))) (look-in ! 18 (sub ! 0 refl (whole !))))
         (and-then ! (load ! (from ! (stop !)) (look ! 26 refl))
         (and-then ! (load ! (from ! (stop !)) (look ! 24 refl)) (and-then ! (load ! (from ! (stop !)) (look ! 20 refl)) (no-more !))))) (λ u-kept.
         use1 W (later (some (λ (kept : Kept). (‵ ftrue ⊛ ‵ (kept-row .own kept (u-kept ∷ [])))
-        ⊛ raw (ensured 𝓤 H A slave-figures-removed.ended (slave-figures-removed.clauses 𝓤 H A mem run) tt
+        ⊛ raw (ensured 𝓤 H A slave-figures-after-remove.ended (slave-figures-after-remove.clauses 𝓤 H A mem run) tt
         (plan .number, (figures, (owner, (at, tt)))) tt kept)))) (id⊢ 𝓤 _) $
         await ! tt $ pick ! (λ kept. split ! $ move ! (1 ∷ []) $
         use1 W (raw (fact 𝓤 (kept ≡ removeFigures (plan .number) figures owner at)))
-        (slave-figures-removed-says 𝓤 H A mem run (plan .number) figures owner at kept) $
+        (slave-figures-after-remove-says 𝓤 H A mem run (plan .number) figures owner at kept) $
         heard ! (kept ≡ removeFigures (plan .number) figures owner at) (λ e-kept. split ! $ drop ! $
         peeks ! kept-row (Is kept-row) (shows 𝓤 H A kept-row) kept (u-kept ∷ []) (λ is-kept.
         let ok-kept = subst (Is kept-row kept) (kept-tells kept _ is-kept) is-kept in
@@ -321,25 +322,25 @@ module _ {M : Type 1} (𝓤 : URA M) (H : Heap 𝓤) (A : Atoms 𝓤) (W : Given
 module _ {M : Type 1} (𝓤 : URA M) (H : Heap 𝓤) (A : Atoms 𝓤) (W : Given 𝓤 H A) (mem : Memory → SProp 𝓤) (run : Routine → Fun 𝓤) where
   walks : (C : Calls 𝓤 H) (Λ : Loops 𝓤 H) → FmC 𝓤 H (W .laws) C
       → Triple 𝓤 (C #seek) (The-seek 𝓤 H A mem run) → Triple 𝓤 (C #slave-plans-remove) (The-slave-plans-remove 𝓤 H A mem run)
-      → Triple 𝓤 (C #slave-figures-removed) (The-slave-figures-removed 𝓤 H A mem run) → Triple 𝓤 (C #put) (The-put 𝓤 H A mem run)
+      → Triple 𝓤 (C #slave-figures-after-remove) (The-slave-figures-after-remove 𝓤 H A mem run) → Triple 𝓤 (C #put) (The-put 𝓤 H A mem run)
       → Walks 𝓤 H A f.ended stayed (WpFn 𝓤 H C Λ code.function) (f.clauses 𝓤 H A mem run)
-  walks C Λ fm known-seek known-slave-plans-remove known-slave-figures-removed known-put =
+  walks C Λ fm known-seek known-slave-plans-remove known-slave-figures-after-remove known-put =
       walked 𝓤 H A f.ended stayed (f.clauses 𝓤 H A mem run) (WpFn 𝓤 H C Λ code.function)
       (λ κs. (slice-vals, (figures-vals, (bool-vals, (uint-vals w16, tt)))))
       (λ κs. (mut-slice-tells (named 0) (κs .0) slave-row, (figures-tells, (bool-tells, (uint-tells w16, tt)))))
       (λ κs qs bounds a g are. via 𝓤 _ (fst∗ 𝓤 _ (emp 𝓤))
       (walk 𝓤 H A W mem run (κs .0) (qs .0) (a .0 .ptr .0) (a .0 .ptr .1) (a .0 .name) (a .0 .now) (a .1 .0) (a .1 .1 .0) (a .1 .1 .1 .0)
-      (are .0 .0 .1) (are .1 .0) (are .1 .1 .0) (are .1 .1 .1 .0) C Λ fm known-seek known-slave-plans-remove known-slave-figures-removed known-put))
+      (are .0 .0 .1) (are .1 .0) (are .1 .1 .0) (are .1 .1 .1 .0) C Λ fm known-seek known-slave-plans-remove known-slave-figures-after-remove known-put))
 
 meets : {M : Type 1} (𝓤 : URA M) (H : Heap 𝓤) (A : Atoms 𝓤) → Given 𝓤 H A → (mem : Memory → SProp 𝓤) (run : Routine → Fun 𝓤) (𝓣 : Tables 𝓤 H)
     → Triple 𝓤 (𝓣 .C #seek) (The-seek 𝓤 H A mem run) → Triple 𝓤 (𝓣 .C #slave-plans-remove) (The-slave-plans-remove 𝓤 H A mem run)
-    → Triple 𝓤 (𝓣 .C #slave-figures-removed) (The-slave-figures-removed 𝓤 H A mem run) → Triple 𝓤 (𝓣 .C #put) (The-put 𝓤 H A mem run)
+    → Triple 𝓤 (𝓣 .C #slave-figures-after-remove) (The-slave-figures-after-remove 𝓤 H A mem run) → Triple 𝓤 (𝓣 .C #put) (The-put 𝓤 H A mem run)
     → Meets 𝓤 H A f.signature (WpFn 𝓤 H (𝓣 .C) (𝓣 .Λ) code.function) (f.spec 𝓤 H A mem run)
-meets 𝓤 H A W mem run 𝓣 known-seek known-slave-plans-remove known-slave-figures-removed known-put =
+meets 𝓤 H A W mem run 𝓣 known-seek known-slave-plans-remove known-slave-figures-after-remove known-put =
     walk-meets 𝓤 H A f.ended stayed W
     (goes-gave-slice 𝓤 H A W 1 0 tt (plain (λ _. slave-row)), (goes-none 𝓤 H A W 1 (λ _. figures-row) yes (λ κs x f. refl), (goes-none 𝓤 H A W 1 (λ _. bool) yes (λ κs x f. refl), (goes-none 𝓤 H A W 1 (λ _. u16) yes (λ κs x f. refl), tt))))
     (f.clauses 𝓤 H A mem run) (WpFn 𝓤 H (𝓣 .C) (𝓣 .Λ) code.function) (WpFn-mono 𝓤 H (W .laws) 𝓣 code.function)
-    (walks 𝓤 H A W mem run (𝓣 .C) (𝓣 .Λ) (fmOf 𝓤 H (W .laws) 𝓣) known-seek known-slave-plans-remove known-slave-figures-removed known-put)
+    (walks 𝓤 H A W mem run (𝓣 .C) (𝓣 .Λ) (fmOf 𝓤 H (W .laws) 𝓣) known-seek known-slave-plans-remove known-slave-figures-after-remove known-put)
 
 pub remove-spec : {M : Type 1} → stated.statement M
 unfolding code.routine tablesOf
@@ -351,7 +352,8 @@ remove-spec 𝓤 H 𝓜 𝓖 𝓡 =
     code.calls-slaves·seek (seek-thm.met 𝓤 H 𝓜 𝓖 𝓡))
     (cited 𝓤 H (The-slave-plans-remove 𝓤 H (𝓖 .A) (𝓜 .mem) (𝓡 .run)) 𝓜 𝓡 code.env #slave-plans-remove slave-plans-remove-def.routine
     code.calls-slave-plans·remove (slave-plans-remove-thm.met 𝓤 H 𝓜 𝓖 𝓡))
-    (cited 𝓤 H (The-slave-figures-removed 𝓤 H (𝓖 .A) (𝓜 .mem) (𝓡 .run)) 𝓜 𝓡 code.env #slave-figures-removed slave-figures-removed-def.routine
-    code.calls-slave-figures·removed (slave-figures-removed-thm.met 𝓤 H 𝓜 𝓖 𝓡))
+    (cited 𝓤 H (The-slave-figures-after-remove 𝓤 H (𝓖 .A) (𝓜 .mem)
+    (𝓡 .run)) 𝓜 𝓡 code.env #slave-figures-after-remove slave-figures-after-remove-def.routine
+    code.calls-slave-figures·after-remove (slave-figures-after-remove-thm.met 𝓤 H 𝓜 𝓖 𝓡))
     (cited 𝓤 H (The-put 𝓤 H (𝓖 .A) (𝓜 .mem) (𝓡 .run)) 𝓜 𝓡 code.env #put put-def.routine
     code.calls-slaves·put (put-thm.met 𝓤 H 𝓜 𝓖 𝓡)))

@@ -1,11 +1,11 @@
--- `entered` meets its contract: one more, and the next free entry. Assumes nothing.
+-- `after_enter` meets its contract: one more, and the next free entry. Assumes nothing.
 use Prim.Native.Nat.{ℕ, _+_, _%_, _^_}
 use mathlib.Core.Path.{_∙_, ap, ap₂}
 use Rattle.slave_figures.specs.Keeping.{figuresWith, keptBy}
 use Rattle.slave_figures.specs.declared.Figures.{Figures}
 use borrow.Author.Needs.{needs}
-use Rattle.slave_figures.proofs.entered.Statement.{statement}
-use Rattle.slave_figures.proofs.entered.Tie as tie
+use Rattle.slave_figures.proofs.after_enter.Statement.{statement}
+use Rattle.slave_figures.proofs.after_enter.Tie as tie
 
 held-requires : tie.Need-held-requires
 held-requires c κs = search needs
@@ -32,5 +32,5 @@ returns c =
     (c .before .before .before .wrapping-add-u8 .ensures ∙ ap (λ (held : ℕ). (held + 1) % 2 ^ 8) (c .before .before .before .before .held .ensures))
     (c .before .before .free-or-32 .ensures))
 
-pub entered-spec : {M : Type 1} → statement M
-entered-spec = tie.close (tie.spec held-requires wrapping-add-u8-requires free-or-32-requires with-held-requires answer-requires returns)
+pub after-enter-spec : {M : Type 1} → statement M
+after-enter-spec = tie.close (tie.spec held-requires wrapping-add-u8-requires free-or-32-requires with-held-requires answer-requires returns)

@@ -1,11 +1,11 @@
--- `removed` meets its contract: one less, and the lower index. Assumes nothing.
+-- `after_remove` meets its contract: one less, and the lower index. Assumes nothing.
 use Prim.Native.Nat.{ℕ, _-_}
 use mathlib.Core.Path.{_∙_, ap, ap₂}
 use Rattle.slave_figures.specs.Keeping.{figuresWith, keptBy}
 use Rattle.slave_figures.specs.declared.Figures.{Figures}
 use borrow.Author.Needs.{needs}
-use Rattle.slave_figures.proofs.removed.Statement.{statement}
-use Rattle.slave_figures.proofs.removed.Tie as tie
+use Rattle.slave_figures.proofs.after_remove.Statement.{statement}
+use Rattle.slave_figures.proofs.after_remove.Tie as tie
 
 held-requires : tie.Need-held-requires
 held-requires c κs = search needs
@@ -32,5 +32,5 @@ returns c =
     (c .before .before .before .one-less .ensures ∙ ap (λ (held : ℕ). held - 1) (c .before .before .before .before .held .ensures))
     (c .before .before .lower .ensures))
 
-pub removed-spec : {M : Type 1} → statement M
-removed-spec = tie.close (tie.spec held-requires one-less-requires lower-requires with-held-requires answer-requires returns)
+pub after-remove-spec : {M : Type 1} → statement M
+after-remove-spec = tie.close (tie.spec held-requires one-less-requires lower-requires with-held-requires answer-requires returns)
