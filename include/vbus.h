@@ -18,8 +18,7 @@
  *    the call: a recording can't be normalized in place.
  *  - While a call runs, nothing else writes to its buffers, nor reads those that it writes.
  *  - Each `owner` in a table of slaves is 0 or 1 as a byte, as C and C++ store a bool. Whoever brings a table in as bytes,
- *    from flash say, must see to that before handing it over. That the figures handed over with a table are its own can be
- *    checked (vbus_slave_check_figures), and nothing goes out of range where they aren't.
+ *    from flash say, must see to that before handing it over.
  *
  * Refusals. `number` is 0 where the function did its work, else the number of a refusal. At each function its refusals
  * stand in the order in which they are checked; the first that applies is given. After a refusal every buffer holds
@@ -348,18 +347,13 @@ vbus_written vbus_write_slave_id(uint16_t destination, uint16_t source, uint32_t
  * Two owners use the table, false and true: two plants, say, whose buses end in one box. An entry that isn't free is of
  * the owner that it names. A call is about one owner, and finds, changes and removes that owner's entries alone, so that
  * both may have a slave with the same address. Calls never make an address stand in two entries of an owner; in a table
- * brought in that has one twice, the owner's entry with the lower index counts. An owner may hold VBUS_SLAVES_PER_OWNER
- * entries; one that was brought in with more keeps them, and gets a further one only when it holds fewer than that.
- * In a table that was empty and that these calls alone have changed, an owner with fewer than 8 entries is never refused
- * as VBUS_TABLE_FULL: its neighbour can't hold all the rest. Whether one with 8 to 23 is refused so is all that depends
- * on the neighbour: after the same calls, of which the same were refused so, an owner finds the same and meets the same
- * other refusals, whatever its neighbour does.
+ * brought in that has one twice, the owner's entry with the lower index counts.
  *
  * Figures. With each table goes a vbus_figures of its own, which the caller keeps: zeroed with the empty table, handed
  * over to vbus_slave_enter and vbus_slave_remove, and replaced by what these answer. vbus_slave_find and
  * vbus_slave_change_address neither need nor change figures. From true ones, those that counting the table gives, each
- * call, a refused one too, leaves true ones. They become false where the caller writes an address or an owner into the
- * table by itself, drops figures that came back, or hands over those of another table.
+ * call, a refused one too, leaves true ones. They can become false where the caller writes an address or an owner into
+ * the table by itself, drops figures that came back, or hands over those of another table.
  * With figures that aren't true nothing goes out of range, a slave still goes into a free entry, and a refusal still
  * changes nothing; only these may differ: whether a slave is refused as VBUS_TABLE_FULL, which free entry it goes into,
  * and the figures afterwards. A table brought in with its figures, from flash say, is therefore checked with
@@ -371,6 +365,13 @@ vbus_written vbus_write_slave_id(uint16_t destination, uint16_t source, uint32_t
  *         else if (table[i].owner) figures.yes++;
  *         else figures.no++;
  *     }
+ *
+ * With true figures an owner may hold VBUS_SLAVES_PER_OWNER entries; one that was brought in with more keeps them, and
+ * gets a further one only when it holds fewer than that. In a table that was empty, and that these calls alone have
+ * changed with its figures handed on from call to call, an owner with fewer than 8 entries is never refused as
+ * VBUS_TABLE_FULL: its neighbour can't hold all the rest. Whether one with 8 to 23 is refused so is all that depends on
+ * the neighbour: after the same calls, of which the same were refused so, an owner finds the same and meets the same
+ * other refusals, whatever its neighbour does.
  *
  * The refusals, of which each function names its own; `number`, or the number that is answered, is 0 where there is none:
  *   VBUS_WRONG_TABLE_LENGTH (24): n isn't VBUS_SLAVES
@@ -401,8 +402,8 @@ vbus_slave_found vbus_slave_find(const vbus_slave *table, size_t n, bool owner, 
 uint32_t vbus_slave_change_address(vbus_slave *table, size_t n, bool owner, uint16_t from, uint16_t to);
 
 /* Removes the owner's slave with an address: every field of its entry is 0 afterwards, so its owner false. The owner's
- * figure is one less, or 0 if it was 0, and `lowest` that entry's index if it was above it. After a refusal the figures
- * are those handed in.
+ * figure is one less, or 0 if it was 0, and `lowest` becomes the index of that entry if that is lower. After a refusal
+ * the figures are those handed in.
  *   VBUS_WRONG_TABLE_LENGTH (24), VBUS_NO_SUCH_ADDRESS (17) */
 vbus_slave_kept vbus_slave_remove(vbus_slave *table, size_t n, vbus_figures figures, bool owner, uint16_t address);
 

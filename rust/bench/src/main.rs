@@ -8,7 +8,7 @@
 //! against its time for the same recordings without. A third has its time for the faults of hostile
 //! recordings against its time for as many bytes in recordings of an eighth of the size. A fourth has
 //! calls on a table of slaves, again against the reference, and those that keep figures also against a
-//! reference that counts in each call.
+//! reference that keeps none, which counts in each call that enters.
 
 mod library;
 mod recordings;
@@ -646,7 +646,7 @@ fn removing() {
         }),
     );
     table_row(
-        "remove the last of 31 slaves / counting",
+        "remove the last of 31 slaves / without figures",
         on_table!(vbus_sys, |table, figures, slaves| {
             table[30] = slaves[30];
             let Slave { owner, address, .. } = slaves[30];

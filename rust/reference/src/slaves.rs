@@ -222,7 +222,8 @@ pub fn slave_enter(table: &mut [Slave], figures: Figures, slave: Slave) -> Slave
     kept(figures, enter(table, figures, slave))
 }
 
-/// Whatever the figures are, an entry that is taken is free: it is sought from the lowest on.
+/// Whatever the figures are, an entry that is taken is free: it is sought from the lowest on. What false
+/// ones lead to, here and in removing, document 02 leaves open: this is what the library's header says.
 fn enter(table: &mut [Slave], mut figures: Figures, slave: Slave) -> Result<Figures, u32> {
     check_enterable(table, slave)?;
     let held = figures.held(slave.owner);

@@ -335,7 +335,7 @@ extern "C" {
         room: usize,
     ) -> Written;
 
-    /// Enters a slave, for the owner that it names, as the free entry with the lowest index.
+    /// Enters a slave, for the owner that it names, as the lowest free entry from the figures' on.
     pub fn vbus_slave_enter(
         table: *mut Slave,
         n: usize,
