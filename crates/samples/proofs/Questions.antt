@@ -77,7 +77,9 @@ pub data Question : Type 0 where
   removeBy : Figures → Bool → ℕ → List Slave → Question
   checkFigures : Figures → List Slave → Question
   answeredBy : Bool → List Operation → Question
+  answeredFrom : Bool → Figures → List Slave → List Operation → Question
   leftBy : List Operation → Question
+  leftFrom : Figures → List Slave → List Operation → Question
   ownedBy : Bool → List Operation → Question
   verdict : Verdict → Question
 
@@ -196,7 +198,9 @@ answer (enterBy f s t) = let kept = enterKept f s t in kept .number ∷ (figures
 answer (removeBy f o a t) = let kept = removeKept f o a t in kept .number ∷ (figuresTold (kept .figures) ++ tableTold (removed o a t))
 answer (checkFigures f t) = checkedTold (checkOf f t)
 answer (answeredBy o history) = answersTold (Keepings.answersOf o history)
+answer (answeredFrom o f t history) = answersTold (Keepings.answersFrom o (record { table = t; figures = f }) history)
 answer (leftBy history) = stateTold (Keepings.stateOf history)
+answer (leftFrom f t history) = stateTold (Keepings.stateFrom (record { table = t; figures = f }) history)
 answer (ownedBy o history) = ownTold (Keepings.ownHistory o history)
 answer (verdict v) = number v ∷ []
 
