@@ -92,56 +92,11 @@ module _ (slave : Slave) (s : State) where
   abbrev t : List Slave
   t = s .table
 
-  -- no entry from the figures' lowest on is free
-  abbrev pub NoneFrom : Type 0
-  NoneFrom = (k : ℕ) → s .figures .lowest ≤ k → k < length t → isFree (getD t k none) ≡ false
-
-  -- 16 comes by the figures: "exactly when it holds 24 or more, or no entry is free", as they say
-  pub record FullBy : Type 0 where
-    pub size : length t ≡ 32
-    pub address : SlaveAddress (slave .address)
-    pub product : slave .product < 2 ^ 24
-    pub device : slave .device < 2 ^ 24
-    pub fresh : Nowhere (hasAddress (slave .owner) (slave .address)) t
-    pub full : (24 ≤ heldBy (slave .owner) (s .figures)) ⊎ NoneFrom
-
   abbrev occupancy : Occupancy
   occupancy = occupancyBy (slave .owner) (s .figures) t
 
   abbrev stands : ℕ
   stands = indexOf (slave .owner) (slave .address) t
-
-  none-left : (24 ≤ occupancy .held) ⊎ (length t ≤ occupancy .free) → (24 ≤ occupancy .held) ⊎ NoneFrom
-  none-left (inl many) = inl many
-  none-left (inr past) = inr (from-none isFree (s .figures .lowest) t .0 past)
-
-  past-end : (24 ≤ occupancy .held) ⊎ NoneFrom → (24 ≤ occupancy .held) ⊎ (length t ≤ occupancy .free)
-  past-end (inl many) = inl many
-  past-end (inr none-free) = inr (from-none isFree (s .figures .lowest) t .1 none-free)
-
-  pub full-by : (answerIn (Enter slave) s .number ≡ 16) ↔ FullBy
-  unfolding enterRefusalBy
-  full-by = (
-    λ e.
-        let (size, address, narrow, fresh, full) = full-lines (length t) stands occupancy slave .0 e in
-        let bounds = wide-exactly (slave .product) (slave .device) .0 narrow in
-        record {
-          size = size;
-          address = slave-exactly (slave .address) .0 address;
-          product = bounds .0;
-          device = bounds .1;
-          fresh = lowest-nowhere (hasAddress (slave .owner) (slave .address)) t fresh;
-          full = none-left (full-either (length t) occupancy .0 full);
-        },
-    λ r.
-        full-lines (length t) stands occupancy slave .1 (
-          r .size,
-          slave-exactly (slave .address) .1 (r .address),
-          wide-exactly (slave .product) (slave .device) .1 (r .product, r .device),
-          omega (arith, lowest-none (hasAddress (slave .owner) (slave .address)) t (r .fresh)),
-          full-either (length t) occupancy .1 (past-end (r .full)),
-        ),
-  )
 
   -- "entering takes only a free entry", one in the table: the lowest from the figures' on
   pub record Takes (at : ℕ) : Type 0 where
@@ -187,6 +142,53 @@ module _ (slave : Slave) (s : State) where
         (λ zero. subst (λ (n : ℕ). foundOf o n (set t at slave) ≡ foundOf o n t) (sym zero) (zero-found o (set t at slave) t (length-set t at slave)))
         (λ some. put-unfound t at slave o a (takes .inside) (other-address o a _ (λ is. some (sym is ∙ free-exactly _ .0 (takes .free))))
         (false-unless _ (λ y. let named = address-exactly slave o a .0 y in other (sym (named .0), sym (named .1)))))
+
+  -- ── 16
+
+  -- no entry from the figures' lowest on is free
+  abbrev pub NoneFrom : Type 0
+  NoneFrom = (k : ℕ) → s .figures .lowest ≤ k → k < length t → isFree (getD t k none) ≡ false
+
+  -- 16 comes by the figures: "exactly when it holds 24 or more, or no entry is free", as they say
+  pub record FullBy : Type 0 where
+    pub size : length t ≡ 32
+    pub address : SlaveAddress (slave .address)
+    pub product : slave .product < 2 ^ 24
+    pub device : slave .device < 2 ^ 24
+    pub fresh : Nowhere (hasAddress (slave .owner) (slave .address)) t
+    pub full : (24 ≤ heldBy (slave .owner) (s .figures)) ⊎ NoneFrom
+
+  none-left : (24 ≤ occupancy .held) ⊎ (length t ≤ occupancy .free) → (24 ≤ occupancy .held) ⊎ NoneFrom
+  none-left (inl many) = inl many
+  none-left (inr past) = inr (from-none isFree (s .figures .lowest) t .0 past)
+
+  past-end : (24 ≤ occupancy .held) ⊎ NoneFrom → (24 ≤ occupancy .held) ⊎ (length t ≤ occupancy .free)
+  past-end (inl many) = inl many
+  past-end (inr none-free) = inr (from-none isFree (s .figures .lowest) t .1 none-free)
+
+  pub full-by : (answerIn (Enter slave) s .number ≡ 16) ↔ FullBy
+  unfolding enterRefusalBy
+  full-by = (
+    λ e.
+        let (size, address, narrow, fresh, full) = full-lines (length t) stands occupancy slave .0 e in
+        let bounds = wide-exactly (slave .product) (slave .device) .0 narrow in
+        record {
+          size = size;
+          address = slave-exactly (slave .address) .0 address;
+          product = bounds .0;
+          device = bounds .1;
+          fresh = lowest-nowhere (hasAddress (slave .owner) (slave .address)) t fresh;
+          full = none-left (full-either (length t) occupancy .0 full);
+        },
+    λ r.
+        full-lines (length t) stands occupancy slave .1 (
+          r .size,
+          slave-exactly (slave .address) .1 (r .address),
+          wide-exactly (slave .product) (slave .device) .1 (r .product, r .device),
+          omega (arith, lowest-none (hasAddress (slave .owner) (slave .address)) t (r .fresh)),
+          full-either (length t) occupancy .1 (past-end (r .full)),
+        ),
+  )
 
 -- so where it is answered as by true figures, all that is found afterwards is as by true ones
 pub any-found : (op : Operation) (s : State) → answerIn op s ≡ answerIn op (counted (s .table)) → (o : Bool) (a : ℕ)
