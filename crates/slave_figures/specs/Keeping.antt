@@ -26,7 +26,7 @@ heldBy owner figures = choose owner (figures .yes) (figures .no)
 abbrev pub freeBy : Figures → List Slave → ℕ
 freeBy figures table = lowestFrom (figures .lowest) isFree table
 
--- both, which No. 8 counts
+-- both, in place of what No. 8 counts (`occupancyOf`)
 abbrev pub occupancyBy : Bool → Figures → List Slave → Occupancy
 occupancyBy owner figures table = record { held = heldBy owner figures; free = freeBy figures table }
 
@@ -40,10 +40,12 @@ keptBy refusal after figures = record { number = refusal; figures = choose (eqb 
 
 -- ── entering
 
+-- No. 8's table of refusals, by the figures: 16 alone goes by them
 unfoldable pub enterRefusalBy : Figures → Slave → List Slave → ℕ
 enterRefusalBy figures slave table =
     first (enterLines (length table) (indexOf (slave .owner) (slave .address) table) (occupancyBy (slave .owner) figures table) slave)
 
+-- the entry that is taken goes by them too
 abbrev pub enteredBy : Figures → Slave → List Slave → List Slave
 enteredBy figures slave table = tableWith (enterRefusalBy figures slave table) (freeBy figures table) slave table
 
@@ -66,6 +68,7 @@ removeKept figures owner address table = keptBy (removeRefusal owner address tab
 
 -- ── checking
 
+-- each figure is what counting gives
 abbrev pub sameFigures : Figures → Figures → Bool
 sameFigures counted figures = eqb (counted .no) (figures .no) && (eqb (counted .yes) (figures .yes) && eqb (counted .lowest) (figures .lowest))
 
