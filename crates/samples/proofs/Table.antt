@@ -31,10 +31,9 @@ use Rattle.sections.specs.Element.{elementSize}
 use Rattle.sections.specs.Answer.{notBlock}
 use Rattle.slave_id.specs.SlaveId.{isResponse, slaveIdOf, tooWide, writeRefusal}
 use Rattle.slave_plans.specs.Table.{isFree, belongsTo, hasAddress, lowest, count}
-use Rattle.slave_plans.specs.History.{tableFrom, answersFrom}
+use Rattle.slave_plans.specs.History.{runFrom, answersBy}
 use Rattle.slave_plans.specs.Answer.{notSlave, isAbsent, isFull, isTaken, enterRefusal, foundBy, changeRefusal, removeRefusal}
 use Rattle.slave_figures.specs.Keeping.{heldBy, figuresWith, enterRefusalBy, checkBy}
-use Rattle.slave_figures.specs.History as Keepings
 use Rattle.samples.proofs.Slaves.{slaveIds, slaveTables, twoOwners, histories}
 use Rattle.samples.proofs.Figures.{keptFigures}
 use Rattle.samples.proofs.Questions.{Row, refused, checksum, extract, inject, validate, read, carry, encode, value, next, receive, reset, fault, normalize, sections, section, elements, element, temperature, verdict, untouched, answer}
@@ -333,5 +332,5 @@ abbrev table : List Row
 table = starred ++ (septets ++ (verdicts ++ (records ++ (recordings ++ (receptions ++ (faults ++ (blockSections ++ (slaveIds ++ (slaveTables ++ (twoOwners ++ (histories ++ (keptFigures ++ verdictNumbers))))))))))))
 
 samples : map (λ (row : Row). answer (row .0)) table ≡ map (λ (row : Row). row .1) table
-unfolding choose signed checksumFrom septetOf lowBits withTopBits anyHigh kindOf headerLength frameWidth frameCount streamLength payloadLength frameRule headerRule ruleAt breach faultAt blockWidth unusedFrames unusedIn countNonzero unusedSeptets validationFrom recordOf unframed commandIn payloadIn framed framesOf kindBytes streamAs streamWith streamOf unwritable Encodings.refusal deliveriesFrom Nexts.refusal streams roomRefusal beginning extended kept outcomeOf heldIn Receptions.refusal wantedAt faultsFrom nextFault cut someShort elementSize notBlock flatten isResponse slaveIdOf tooWide writeRefusal isFree belongsTo hasAddress lowest count notSlave isAbsent isFull isTaken enterRefusal foundBy changeRefusal removeRefusal tableFrom answersFrom heldBy figuresWith enterRefusalBy checkBy Keepings.stateFrom Keepings.answersFrom
+unfolding choose signed checksumFrom septetOf lowBits withTopBits anyHigh kindOf headerLength frameWidth frameCount streamLength payloadLength frameRule headerRule ruleAt breach faultAt blockWidth unusedFrames unusedIn countNonzero unusedSeptets validationFrom recordOf unframed commandIn payloadIn framed framesOf kindBytes streamAs streamWith streamOf unwritable Encodings.refusal deliveriesFrom Nexts.refusal streams roomRefusal beginning extended kept outcomeOf heldIn Receptions.refusal wantedAt faultsFrom nextFault cut someShort elementSize notBlock flatten isResponse slaveIdOf tooWide writeRefusal isFree belongsTo hasAddress lowest count notSlave isAbsent isFull isTaken enterRefusal foundBy changeRefusal removeRefusal runFrom answersBy heldBy figuresWith enterRefusalBy checkBy
 samples = refl

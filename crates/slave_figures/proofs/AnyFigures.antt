@@ -1,5 +1,5 @@
 -- Request No. 9 of any figures at all: nothing goes out of range, and only 16, the entry taken and the figures afterwards depend on them.
-use Prim.Native.Nat.{ℕ, suc, _-_, _≤_, _<_, _^_}
+use Prim.Native.Nat.{ℕ, zero, suc, _+_, _-_, _≤_, _<_, _^_}
 use native.Mathlib.Omega.{arith}
 use native.Mathlib.Decide.{ℕ-discrete}
 use mathlib.Core.Path.{_≡_, refl, sym, ap, subst, _∙_}
@@ -8,13 +8,13 @@ use mathlib.Core.Bool.{Bool, true, false, not, Bool-discrete}
 use mathlib.Core.List.{List}
 use lib.Dec.{eqb, ltb}
 use lib.ListN.{length, getD, set, length-set}
-use borrow.Author.Tests.{eqb-true, ltb-true}
+use borrow.Author.Tests.{eqb-true, ltb-true, ltb-false}
 use Rattle.basics.specs.Choice.{choose}
 use Rattle.basics.proofs.Choice.{choose-by}
 use Rattle.basics.proofs.Table.{when-none, when-refused}
 use Rattle.slave_id.specs.SlaveId.{tooWide}
 use Rattle.slave_id.proofs.Writing.{wide-exactly}
-use Rattle.slave_plans.specs.Table.{none, isFree, hasAddress, indexOf}
+use Rattle.slave_plans.specs.Table.{none, isFree, hasAddress, lowestFrom, indexOf}
 use Rattle.slave_plans.specs.Answer.{notSlave, isFull, foundOf, changeRefusal, removeRefusal}
 use Rattle.slave_plans.specs.History.{Operation, Enter, Find, Change, Remove, ownerOf, numberAlone}
 use Rattle.slave_plans.specs.declared.Slave.{Slave}
@@ -250,6 +250,89 @@ in-range (Remove o a) s r =
     with-in-range o _ _ (s .figures) (omega (arith, held-in-range o (s .figures) r))
     (choose-by (λ (n : ℕ). n < 2 ^ 8) (ltb (indexOf o a (s .table)) (s .figures .lowest)) (λ lower. omega (arith, ltb-true (indexOf o a (s .table)) (s .figures .lowest) lower, r .lowest)) (λ higher. r .lowest)) r)
     (λ refused. r)
+
+-- ── the figures afterwards, by any
+
+-- an owner's number is another, and the other owner's stays
+held-with : (o : Bool) (held free : ℕ) (f : Figures) → (heldBy o (figuresWith o held free f) ≡ held) × (heldBy (not o) (figuresWith o held free f) ≡ heldBy (not o) f)
+unfolding heldBy figuresWith choose
+held-with true held free f = (refl, refl)
+held-with false held free f = (refl, refl)
+
+free-with : (o : Bool) (held free : ℕ) (f : Figures) → figuresWith o held free f .lowest ≡ free
+unfolding figuresWith
+free-with o held free f = refl
+
+-- entering: the owner holds one more, and the lowest free entry is the next one behind the entry taken, or past the end
+pub record Raised (o : Bool) (t : List Slave) (at : ℕ) (before after : Figures) : Type 0 where
+  pub own : heldBy o after ≡ suc (heldBy o before)
+  pub other : heldBy (not o) after ≡ heldBy (not o) before
+  pub behind : at < after .lowest
+  pub between : (k : ℕ) → at < k → k < after .lowest → isFree (getD t k none) ≡ false
+  pub free : after .lowest < length t → isFree (getD t (after .lowest) none) ≡ true
+  pub most : after .lowest ≤ length t
+
+pub entered-figures : (slave : Slave) (s : State) (accepted : answerIn (Enter slave) s .number ≡ 0)
+    → Raised (slave .owner) (s .table) (free-only slave s accepted .0) (s .figures) (stateAfter (Enter slave) s .figures)
+unfolding free-only
+entered-figures slave s accepted =
+    subst (Raised o t at (s .figures)) (sym (when-none (enterRefusalBy (s .figures) slave t) _ (s .figures) accepted))
+    (let is = free-with o held next (s .figures) in
+    record {
+      own = held-with o held next (s .figures) .0 ∙ omega arith;
+      other = held-with o held next (s .figures) .1;
+      behind = omega (arith, is);
+      between = λ k behind below. from-lower isFree (suc at) t k behind (omega (arith, is, below));
+      free = λ inside. subst (λ (n : ℕ). isFree (getD t n none) ≡ true) (sym is) (from-here isFree (suc at) t (omega (arith, is, inside)));
+      most = omega (arith, is, from-most isFree (suc at) t (free-only slave s accepted .1 .inside));
+    })
+  where
+    o : Bool
+    o = slave .owner
+
+    t : List Slave
+    t = s .table
+
+    at : ℕ
+    at = freeBy (s .figures) t
+
+    held : ℕ
+    held = heldBy o (s .figures) + 1
+
+    next : ℕ
+    next = lowestFrom (suc at) isFree t
+
+-- removing: the owner holds one less, or 0 as before, and the lowest free entry is the lower of the one that was and the one zeroed
+pub record Lessened (o : Bool) (index : ℕ) (before after : Figures) : Type 0 where
+  pub own : (suc (heldBy o after) ≡ heldBy o before) ⊎ ((heldBy o before ≡ 0) × (heldBy o after ≡ 0))
+  pub other : heldBy (not o) after ≡ heldBy (not o) before
+  pub most : (after .lowest ≤ before .lowest) × (after .lowest ≤ index)
+  pub one-of : (after .lowest ≡ before .lowest) ⊎ (after .lowest ≡ index)
+
+pub removed-figures : (o : Bool) (a : ℕ) (s : State) → answerIn (Remove o a) s .number ≡ 0
+    → Lessened o (indexOf o a (s .table)) (s .figures) (stateAfter (Remove o a) s .figures)
+removed-figures o a s accepted =
+    subst (Lessened o index f) (sym (when-none (removeRefusal o a (s .table)) _ f accepted))
+    (let is = free-with o (heldBy o f - 1) lower f in
+    record {
+      own = less (heldBy o f) (held-with o (heldBy o f - 1) lower f .0);
+      other = held-with o (heldBy o f - 1) lower f .1;
+      most = subst (λ (n : ℕ). (n ≤ f .lowest) × (n ≤ index)) (sym is) (choose-by (λ (n : ℕ). (n ≤ f .lowest) × (n ≤ index)) (ltb index (f .lowest)) (λ below. (omega (arith, ltb-true index (f .lowest) below), omega arith)) (λ past. (omega arith, ltb-false index (f .lowest) past)));
+      one-of = subst (λ (n : ℕ). (n ≡ f .lowest) ⊎ (n ≡ index)) (sym is) (choose-by (λ (n : ℕ). (n ≡ f .lowest) ⊎ (n ≡ index)) (ltb index (f .lowest)) (λ below. inr refl) (λ past. inl refl));
+    })
+  where
+    f : Figures
+    f = s .figures
+
+    index : ℕ
+    index = indexOf o a (s .table)
+
+    lower : ℕ
+    lower = choose (ltb index (f .lowest)) index (f .lowest)
+
+    less : {after : ℕ} (n : ℕ) → after ≡ n - 1 → (suc after ≡ n) ⊎ ((n ≡ 0) × (after ≡ 0))
+    less zero is = inr (refl, is)
+    less (suc n) is = inl (omega (arith, is))
 
 -- ── No. 7 and No. 8, of any table and any figures
 

@@ -3,31 +3,31 @@
 use Prim.Native.Nat.{_≤_, _<_}
 use mathlib.Core.Path.{_≡_, refl, sym, ap, subst, _∙_}
 use mathlib.Core.Logic.{_≢_, _⊎_}
-use mathlib.Core.Bool.{Bool, true, false, Bool·beq}
-use mathlib.Core.List.{List, [], _∷_, _++_, map}
+use mathlib.Core.Bool.{Bool, Bool·beq}
+use mathlib.Core.List.{List, [], _∷_, map}
 use Rattle.basics.specs.Choice.{choose}
 use Rattle.slave_plans.specs.Table.{empty, belongsTo, count}
 use Rattle.slave_plans.specs.History as counting
-use Rattle.slave_plans.specs.History.{Operation, Enter, ownerOf, with16, tableFrom, tableAfter, answerOf}
+use Rattle.slave_plans.specs.History.{Operation, Enter, ownerOf, with16, tableFrom, tableAfter, answerOf, runFrom, answersBy}
 use Rattle.slave_plans.specs.declared.Slave.{Slave}
 use Rattle.slave_plans.specs.declared.Found.{Found}
 use Rattle.slave_plans.proofs.Histories as by-counting
 use Rattle.slave_plans.proofs.Isolation as by-counting′
 use Rattle.slave_plans.proofs.Isolation.{Parted}
 use Rattle.slave_plans.proofs.Operations.{refusalOf}
-use Rattle.slave_figures.specs.History.{State, start, answerIn, stateAfter, stateFrom, answersFrom, stateOf, answersOf, ownHistory}
+use Rattle.slave_figures.specs.History.{State, start, answerIn, stateFrom, answersFrom, stateOf, answersOf, ownHistory}
 use Rattle.slave_figures.proofs.TrueFigures.{counted, True, figures-empty, answer-counted, state-counted}
 
 -- ── as by counting
 
 -- from any table with true figures
 pub states-counted : (t : List Slave) (h : List Operation) → stateFrom (counted t) h ≡ counted (tableFrom t h)
-unfolding stateFrom tableFrom
+unfolding runFrom
 states-counted t [] = refl
 states-counted t (op ∷ h) = ap (λ (s : State). stateFrom s h) (state-counted op t) ∙ states-counted (tableAfter op t) h
 
 pub answers-counted-from : (owner : Bool) (t : List Slave) (h : List Operation) → answersFrom owner (counted t) h ≡ counting.answersFrom owner t h
-unfolding answersFrom counting.answersFrom
+unfolding answersBy
 answers-counted-from owner t [] = refl
 answers-counted-from owner t (op ∷ h) =
     let later = ap (λ (s : State). answersFrom owner s h) (state-counted op t) ∙ answers-counted-from owner (tableAfter op t) h in
@@ -87,17 +87,3 @@ only-16 op h h′ same =
     subst (λ (x : Found). (x ≡ answerIn op (stateOf h′)) ⊎ Parted (x .number) (answerIn op (stateOf h′) .number)) (sym (answer-is op h))
     (subst (λ (x : Found). (answerOf op (counting.tableOf h) ≡ x) ⊎ Parted (refusalOf op (counting.tableOf h)) (x .number)) (sym (answer-is op h′))
     (by-counting′.only-16 op h h′ (same-counted (ownerOf op) h h′ same)))
-
--- a history that goes on is answered from the table and the figures that it has led to, whatever they were
-pub answers-on : (owner : Bool) (s : State) (h h′ : List Operation)
-    → answersFrom owner s (h ++ h′) ≡ answersFrom owner s h ++ answersFrom owner (stateFrom s h) h′
-unfolding answersFrom stateFrom choose
-answers-on owner s [] h′ = refl
-answers-on owner s (op ∷ h) h′ =
-    ap (λ (later : List (Operation × Found)). choose (Bool·beq (ownerOf op) owner) ((op, answerIn op s) ∷ later) later) (answers-on owner (stateAfter op s) h h′)
-    ∙ go (Bool·beq (ownerOf op) owner) (answersFrom owner (stateAfter op s) h) (answersFrom owner (stateFrom (stateAfter op s) h) h′)
-  where
-    go : (own : Bool) (first later : List (Operation × Found))
-        → choose own ((op, answerIn op s) ∷ (first ++ later)) (first ++ later) ≡ choose own ((op, answerIn op s) ∷ first) first ++ later
-    go true first later = refl
-    go false first later = refl

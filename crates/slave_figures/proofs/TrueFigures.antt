@@ -8,10 +8,10 @@ use mathlib.Core.Bool.{Bool, true, false, not, true≢false}
 use mathlib.Core.List.{List}
 use lib.Dec.{eqb}
 use lib.ListN.{length, getD, set}
-use Rattle.basics.specs.Choice.{choose, first}
+use Rattle.basics.specs.Choice.{choose}
 use Rattle.basics.proofs.Table.{when-none, when-refused}
 use Rattle.slave_plans.specs.Table.{none, isFree, belongsTo, lowest, lowestFrom, count, indexOf, occupancyOf}
-use Rattle.slave_plans.specs.Answer.{enterLines, tableWith, enterRefusal, changeRefusal, entryOf, readdressed, removeRefusal}
+use Rattle.slave_plans.specs.Answer.{enterRefusalWith, tableWith, enterRefusal, changeRefusal, entryOf, readdressed, removeRefusal}
 use Rattle.slave_plans.specs.History.{Operation, Enter, Find, Change, Remove, numberAlone, answerOf, tableAfter}
 use Rattle.slave_plans.specs.declared.Slave.{Slave}
 use Rattle.slave_plans.specs.declared.Occupancy.{Occupancy}
@@ -56,7 +56,7 @@ occupancy-counted o t = λ i. record { held = held-counted o t i; free = free-co
 
 refusal-counted : (s : Slave) (t : List Slave) → enterRefusalBy (figuresOf t) s t ≡ enterRefusal s t
 unfolding enterRefusalBy enterRefusal
-refusal-counted s t = ap (λ (x : Occupancy). first (enterLines (length t) (indexOf (s .owner) (s .address) t) x s)) (occupancy-counted (s .owner) t)
+refusal-counted s t = ap (λ (x : Occupancy). enterRefusalWith x s t) (occupancy-counted (s .owner) t)
 
 -- ── an entry in another's place
 

@@ -1,10 +1,9 @@
 -- The operations of both owners on a table and its figures, each call with the figures that the one before gave back (requests No. 8 and No. 9).
-use mathlib.Core.Bool.{Bool, Bool·beq}
-use mathlib.Core.List.{List, [], _∷_, map}
-use Rattle.basics.specs.Choice.{choose}
+use mathlib.Core.Bool.{Bool}
+use mathlib.Core.List.{List, map}
 use Rattle.slave_plans.specs.Table.{empty}
 use Rattle.slave_plans.specs.Answer.{foundOf, changeRefusal, changed, removed}
-use Rattle.slave_plans.specs.History.{Operation, Enter, Find, Change, Remove, ownerOf, numberAlone, with16}
+use Rattle.slave_plans.specs.History.{Operation, Enter, Find, Change, Remove, numberAlone, with16, runFrom, answersBy}
 use Rattle.slave_plans.specs.declared.Slave.{Slave}
 use Rattle.slave_plans.specs.declared.Found.{Found}
 use Rattle.slave_figures.specs.Keeping.{enterKept, enteredBy, removeKept}
@@ -37,16 +36,11 @@ stateAfter (Remove owner address) state =
 
 -- ── histories
 
-unfoldable pub stateFrom : State → List Operation → State
-stateFrom state [] = state
-stateFrom state (operation ∷ rest) = stateFrom (stateAfter operation state) rest
+abbrev pub stateFrom : State → List Operation → State
+stateFrom state history = runFrom stateAfter state history
 
--- an owner's own operations in a history, each with its answer
-unfoldable pub answersFrom : Bool → State → List Operation → List (Operation × Found)
-answersFrom owner state [] = []
-answersFrom owner state (operation ∷ rest) =
-    let later = answersFrom owner (stateAfter operation state) rest in
-    choose (Bool·beq (ownerOf operation) owner) ((operation, answerIn operation state) ∷ later) later
+abbrev pub answersFrom : Bool → State → List Operation → List (Operation × Found)
+answersFrom owner state history = answersBy answerIn stateAfter owner state history
 
 -- "From the empty table on"
 abbrev pub stateOf : List Operation → State

@@ -7,7 +7,7 @@ use lib.Dec.{eqb, ltb}
 use lib.ListN.{length}
 use Rattle.basics.specs.Choice.{choose, first}
 use Rattle.slave_plans.specs.Table.{isFree, belongsTo, lowest, lowestFrom, count, indexOf}
-use Rattle.slave_plans.specs.Answer.{lengthLine, tableWith, enterLines, removeRefusal}
+use Rattle.slave_plans.specs.Answer.{lengthLine, tableWith, enterRefusalWith, removeRefusal}
 use Rattle.slave_plans.specs.declared.Slave.{Slave}
 use Rattle.slave_plans.specs.declared.Occupancy.{Occupancy}
 use Rattle.slave_figures.specs.declared.Figures.{Figures}
@@ -42,8 +42,7 @@ keptBy refusal after figures = record { number = refusal; figures = choose (eqb 
 
 -- No. 8's table of refusals, by the figures: 16 alone goes by them
 unfoldable pub enterRefusalBy : Figures → Slave → List Slave → ℕ
-enterRefusalBy figures slave table =
-    first (enterLines (length table) (indexOf (slave .owner) (slave .address) table) (occupancyBy (slave .owner) figures table) slave)
+enterRefusalBy figures slave table = enterRefusalWith (occupancyBy (slave .owner) figures table) slave table
 
 -- the entry that is taken goes by them too
 abbrev pub enteredBy : Figures → Slave → List Slave → List Slave

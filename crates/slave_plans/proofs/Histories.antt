@@ -10,7 +10,7 @@ use lib.ListN.{length, getD, set}
 use Rattle.basics.specs.Choice.{choose}
 use Rattle.slave_plans.specs.Table.{none, empty, isFree, belongsTo, count}
 use Rattle.slave_plans.specs.Answer.{enterRefusal, entryOf, readdressed}
-use Rattle.slave_plans.specs.History.{Operation, Enter, Find, Change, Remove, ownerOf, answerOf, tableAfter, tableFrom, answersFrom, tableOf}
+use Rattle.slave_plans.specs.History.{Operation, Enter, Find, Change, Remove, ownerOf, tableAfter, runFrom, answersBy, tableFrom, tableOf}
 use Rattle.slave_plans.specs.declared.Slave.{Slave}
 use Rattle.slave_plans.specs.declared.Found.{Found}
 use Rattle.slave_plans.proofs.Entries.{by-test, belongs-exactly}
@@ -61,7 +61,7 @@ invariant-after op {t} r = record {
 }
 
 invariant-from : (t : List Slave) → Invariant t → (h : List Operation) → Invariant (tableFrom t h)
-unfolding tableFrom
+unfolding runFrom
 invariant-from t r [] = r
 invariant-from t r (op ∷ h) = invariant-from (tableAfter op t) (invariant-after op r) h
 
@@ -87,16 +87,16 @@ room-for-eight h s few e = go (enter-full s t .0 e .full)
     go (inl many) = omega (arith, many, few)
     go (inr none-free) = crowded (s .owner) few (count-nowhere isFree t none-free)
 
--- a history that goes on is answered from the table that it has led to
-pub answers-on : (owner : Bool) (t : List Slave) (h h′ : List Operation)
-    → answersFrom owner t (h ++ h′) ≡ answersFrom owner t h ++ answersFrom owner (tableFrom t h) h′
-unfolding answersFrom tableFrom choose
-answers-on owner t [] h′ = refl
-answers-on owner t (op ∷ h) h′ =
-    ap (λ (later : List (Operation × Found)). choose (Bool·beq (ownerOf op) owner) ((op, answerOf op t) ∷ later) later) (answers-on owner (tableAfter op t) h h′)
-    ∙ go (Bool·beq (ownerOf op) owner) (answersFrom owner (tableAfter op t) h) (answersFrom owner (tableFrom (tableAfter op t) h) h′)
+-- a history that goes on is answered from where it has led to, by counting and with figures
+pub answers-on : {S : Type 0} (answer : Operation → S → Found) (after : Operation → S → S) (owner : Bool) (s : S) (h h′ : List Operation)
+    → answersBy answer after owner s (h ++ h′) ≡ answersBy answer after owner s h ++ answersBy answer after owner (runFrom after s h) h′
+unfolding answersBy runFrom choose
+answers-on answer after owner s [] h′ = refl
+answers-on answer after owner s (op ∷ h) h′ =
+    ap (λ (later : List (Operation × Found)). choose (Bool·beq (ownerOf op) owner) ((op, answer op s) ∷ later) later) (answers-on answer after owner (after op s) h h′)
+    ∙ go (Bool·beq (ownerOf op) owner) (answersBy answer after owner (after op s) h) (answersBy answer after owner (runFrom after (after op s) h) h′)
   where
     go : (own : Bool) (first later : List (Operation × Found))
-        → choose own ((op, answerOf op t) ∷ (first ++ later)) (first ++ later) ≡ choose own ((op, answerOf op t) ∷ first) first ++ later
+        → choose own ((op, answer op s) ∷ (first ++ later)) (first ++ later) ≡ choose own ((op, answer op s) ∷ first) first ++ later
     go true first later = refl
     go false first later = refl

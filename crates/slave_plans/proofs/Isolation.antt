@@ -13,7 +13,7 @@ use Rattle.basics.specs.Choice.{choose, first}
 use Rattle.slave_id.specs.SlaveId.{tooWide}
 use Rattle.slave_plans.specs.Table.{empty, occupancyOf}
 use Rattle.slave_plans.specs.Answer.{notSlave, isFull, enterRefusal, foundOf, changeRefusal}
-use Rattle.slave_plans.specs.History.{Operation, Enter, Find, Change, Remove, ownerOf, numberAlone, answerOf, tableAfter, tableFrom, answersFrom, tableOf, answersOf, with16, ownHistory}
+use Rattle.slave_plans.specs.History.{Operation, Enter, Find, Change, Remove, ownerOf, numberAlone, answerOf, tableAfter, runFrom, answersBy, tableFrom, answersFrom, tableOf, answersOf, with16, ownHistory}
 use Rattle.slave_plans.specs.declared.Slave.{Slave}
 use Rattle.slave_plans.specs.declared.Found.{Found}
 use Rattle.slave_plans.proofs.Entries.{same-exactly, false-unless}
@@ -157,11 +157,11 @@ module _ {o : Bool} {t t′ : List Slave} (op : Operation) (other : ownerOf op �
 module _ (o : Bool) where
   module _ (op : Operation) (h : List Operation) (t : List Slave) where
     own-step : ownerOf op ≡ o → answersFrom o t (op ∷ h) ≡ (op, answerOf op t) ∷ answersFrom o (tableAfter op t) h
-    unfolding answersFrom choose
+    unfolding answersBy choose
     own-step own = rw (same-exactly (ownerOf op) o .1 own)
 
     other-step : ownerOf op ≢ o → answersFrom o t (op ∷ h) ≡ answersFrom o (tableAfter op t) h
-    unfolding answersFrom choose
+    unfolding answersBy choose
     other-step other = rw (false-unless _ (λ y. other (same-exactly (ownerOf op) o .0 y)))
 
   -- what an owner was asked and which 16s it got, from a table on
@@ -177,20 +177,20 @@ module _ (o : Bool) where
     after : Alike o (tableFrom t h) (tableFrom t′ h′)
 
   none-left : {t t′ : List Slave} → Alike o t t′ → Agree t t′ [] []
-  unfolding answersFrom tableFrom
+  unfolding answersBy runFrom
   none-left alike = record { answers = refl; after = alike }
 
   module _ (op : Operation) {t t′ : List Slave} {h h′ : List Operation} where
     other-left : ownerOf op ≢ o → Agree (tableAfter op t) t′ h h′ → Agree t t′ (op ∷ h) h′
-    unfolding tableFrom
+    unfolding runFrom
     other-left other a = record { answers = other-step op h t other ∙ a .answers; after = a .after }
 
     other-right : ownerOf op ≢ o → Agree t (tableAfter op t′) h h′ → Agree t t′ h (op ∷ h′)
-    unfolding tableFrom
+    unfolding runFrom
     other-right other a = record { answers = a .answers ∙ sym (other-step op h′ t′ other); after = a .after }
 
     own-both : ownerOf op ≡ o → answerOf op t ≡ answerOf op t′ → Agree (tableAfter op t) (tableAfter op t′) h h′ → Agree t t′ (op ∷ h) (op ∷ h′)
-    unfolding tableFrom
+    unfolding runFrom
     own-both own answer a = record {
       answers =
           own-step op h t own
@@ -205,7 +205,7 @@ module _ (o : Bool) where
 
   -- the first has no own operation: neither has the second
   none-first : Isolated []
-  unfolding answersFrom
+  unfolding answersBy
   none-first [] t t′ alike same = none-left alike
   none-first (op ∷ h′) t t′ alike same =
       dite (Bool-discrete (ownerOf op) o)
@@ -224,7 +224,7 @@ module _ (o : Bool) where
         own-both op own answer (rest h′ (tableAfter op t) (tableAfter op t′) after same)
 
     own-first : Isolated (op ∷ h)
-    unfolding answersFrom
+    unfolding answersBy
     own-first [] t t′ alike same = absurd (omega (arith, ap length (sym (own-16s op h t own) ∙ same)))
     own-first (op′ ∷ h′) t t′ alike same =
         dite (Bool-discrete (ownerOf op′) o)

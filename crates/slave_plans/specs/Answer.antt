@@ -55,9 +55,13 @@ enterLines size at occupancy slave =
     ∷ (isFull size occupancy, 16)
     ∷ []
 
+-- whoever says how many entries the owner holds, and where one is free
+abbrev pub enterRefusalWith : Occupancy → Slave → List Slave → ℕ
+enterRefusalWith occupancy slave table = first (enterLines (length table) (indexOf (slave .owner) (slave .address) table) occupancy slave)
+
+-- by counting
 unfoldable pub enterRefusal : Slave → List Slave → ℕ
-enterRefusal slave table =
-    first (enterLines (length table) (indexOf (slave .owner) (slave .address) table) (occupancyOf (slave .owner) table) slave)
+enterRefusal slave table = enterRefusalWith (occupancyOf (slave .owner) table) slave table
 
 -- "entering takes the lowest free one"
 abbrev pub entered : Slave → List Slave → List Slave

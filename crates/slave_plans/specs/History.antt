@@ -41,17 +41,26 @@ tableAfter (Remove owner address) table = removed owner address table
 
 -- ── histories
 
--- the table that a history leads to
-unfoldable pub tableFrom : List Slave → List Operation → List Slave
-tableFrom table [] = table
-tableFrom table (operation ∷ rest) = tableFrom (tableAfter operation table) rest
+-- of a table, or of one with what is kept beside it: `answer` is what an operation answers, `after` what it leaves
+
+-- where a history leads to
+unfoldable pub runFrom : {S : Type 0} → (Operation → S → S) → S → List Operation → S
+runFrom after state [] = state
+runFrom after state (operation ∷ rest) = runFrom after (after operation state) rest
 
 -- an owner's own operations in a history, each with its answer
-unfoldable pub answersFrom : Bool → List Slave → List Operation → List (Operation × Found)
-answersFrom owner table [] = []
-answersFrom owner table (operation ∷ rest) =
-    let later = answersFrom owner (tableAfter operation table) rest in
-    choose (Bool·beq (ownerOf operation) owner) ((operation, answerOf operation table) ∷ later) later
+unfoldable pub answersBy : {S : Type 0} → (Operation → S → Found) → (Operation → S → S) → Bool → S → List Operation → List (Operation × Found)
+answersBy answer after owner state [] = []
+answersBy answer after owner state (operation ∷ rest) =
+    let later = answersBy answer after owner (after operation state) rest in
+    choose (Bool·beq (ownerOf operation) owner) ((operation, answer operation state) ∷ later) later
+
+-- by counting: the table that a history leads to, and an owner's answers
+abbrev pub tableFrom : List Slave → List Operation → List Slave
+tableFrom table history = runFrom tableAfter table history
+
+abbrev pub answersFrom : Bool → List Slave → List Operation → List (Operation × Found)
+answersFrom owner table history = answersBy answerOf tableAfter owner table history
 
 -- "From the empty table on"
 abbrev pub tableOf : List Operation → List Slave
