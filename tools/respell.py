@@ -13,7 +13,7 @@ import re
 import sys
 from pathlib import Path
 
-WORD = re.compile(r"[A-Za-z_][A-Za-z0-9_'₀-₉-]*")
+WORD = re.compile(r"(?<![\w'])[A-Za-z_][A-Za-z0-9_'₀-₉-]*")
 SPAN = re.compile(r"`[^`\n]+`")
 # Names that a field, or another lemma, has already.
 APART = {

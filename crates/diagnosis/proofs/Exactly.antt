@@ -1,4 +1,4 @@
--- The faults are told of just those 0x_aa that gave no record, in order of place.
+-- The faults are told of just those 0xAA that gave no record, in order of place.
 use Prim.Native.Nat.{ℕ, zero, suc, ◌+◌, ◌≤◌, ◌<◌}
 use native.Mathlib.Omega.{arith}
 use native.Mathlib.Decide.{ℕ_discrete, dec_lt}
@@ -46,20 +46,20 @@ asked-exists s start = asked-within (length s) s start (omega arith)
 -- ── one place
 
 module _ (s : List ℕ) (q : ℕ) where
-  found_here : ((next_fault s q).found ≡ true) × ((next_fault s q).place ≡ q) → (get_or s q 0 ≡ 0x_aa) × (Whole (drop q s) → ⊥)
+  found_here : ((next_fault s q).found ≡ true) × ((next_fault s q).place ≡ q) → (get_or s q 0 ≡ 0xAA) × (Whole (drop q s) → ⊥)
   found_here (e, here) =
       let is = subst (λ (k : ℕ). is_fault (drop k s) ≡ true) here (found_at s q e).is in
       (sym (first-of s q) ∙ fault-sync (drop q s) is, fault-not-whole (drop q s) is)
 
-  here_found : (get_or s q 0 ≡ 0x_aa) × (Whole (drop q s) → ⊥) → ((next_fault s q).found ≡ true) × ((next_fault s q).place ≡ q)
+  here_found : (get_or s q 0 ≡ 0xAA) × (Whole (drop q s) → ⊥) → ((next_fault s q).found ≡ true) × ((next_fault s q).place ≡ q)
   here_found (sync, bad) =
       let inside : q < length s = dite (dec_lt q (length s)) (λ h. h) (λ h. absurd (omega (arith, sync, get_or-eq_default s 0 {n = q} (omega arith)))) in
       let first = next_here s q inside sync bad in
       (ap (λ (f : Fault). f.found) first, ap (λ (f : Fault). f.place) first)
 
--- a fault is told of a place exactly if it holds a 0x_aa and, given room for any payload, no record is delivered there
+-- a fault is told of a place exactly if it holds a 0xAA and, given room for any payload, no record is delivered there
 pub fault-exactly : (s : List ℕ) (q room : ℕ) → q ≤ length s → 508 ≤ room
-    → (((next_fault s q).found ≡ true) × ((next_fault s q).place ≡ q)) ↔ ((get_or s q 0 ≡ 0x_aa) × (((next_of s q room).found ≡ true) × ((next_of s q room).position ≡ q) → ⊥))
+    → (((next_fault s q).found ≡ true) × ((next_fault s q).place ≡ q)) ↔ ((get_or s q 0 ≡ 0xAA) × (((next_of s q room).found ≡ true) × ((next_of s q room).position ≡ q) → ⊥))
 fault-exactly s q room within fits =
     let delivered = next-exactly s q room within fits in (
       (λ told. let (sync, bad) = found_here s q told in (sync, λ record-there. bad (delivered.0 record-there))),
@@ -99,25 +99,25 @@ unfolding without
 without-less q gone [] a = refl
 without-less q gone (x ∷ rest) a = rw (ne_eqb x q (λ e. omega (arith, a.0)), without-less q gone rest a.1) refl
 
--- the places of the 0x_aa that gave no record
+-- the places of the 0xAA that gave no record
 abbrev unanswered : ℕ → List ℕ → List ℕ
 unanswered q rest = without (delivery_positions (deliveries_from q rest)) (sync_places_from q rest)
 
 module _ (q byte : ℕ) (rest : List ℕ) where
-  no-sync : (byte ≡ 0x_aa → ⊥) → unanswered q (byte ∷ rest) ≡ unanswered (suc q) rest
+  no-sync : (byte ≡ 0xAA → ⊥) → unanswered q (byte ∷ rest) ≡ unanswered (suc q) rest
   unfolding deliveries_from sync_places_from choose
-  no-sync other = rw (ne_eqb (validation_of (byte ∷ rest)).verdict 0 (λ w. other (whole-sync (byte ∷ rest) w)), ne_eqb byte 0x_aa other) refl
+  no-sync other = rw (ne_eqb (validation_of (byte ∷ rest)).verdict 0 (λ w. other (whole-sync (byte ∷ rest) w)), ne_eqb byte 0xAA other) refl
 
-  whole-place : byte ≡ 0x_aa → Whole (byte ∷ rest) → unanswered q (byte ∷ rest) ≡ unanswered (suc q) rest
+  whole-place : byte ≡ 0xAA → Whole (byte ∷ rest) → unanswered q (byte ∷ rest) ≡ unanswered (suc q) rest
   unfolding deliveries_from sync_places_from without choose
   whole-place sync w =
-      rw (eq-eqb (validation_of (byte ∷ rest)).verdict 0 w, eq-eqb byte 0x_aa sync, eq-eqb q q refl)
+      rw (eq-eqb (validation_of (byte ∷ rest)).verdict 0 w, eq-eqb byte 0xAA sync, eq-eqb q q refl)
       (without-less q (delivery_positions (deliveries_from (suc q) rest)) (sync_places_from (suc q) rest) (syncs-least (suc q) rest))
 
-  fault-place : byte ≡ 0x_aa → (Whole (byte ∷ rest) → ⊥) → unanswered q (byte ∷ rest) ≡ q ∷ unanswered (suc q) rest
+  fault-place : byte ≡ 0xAA → (Whole (byte ∷ rest) → ⊥) → unanswered q (byte ∷ rest) ≡ q ∷ unanswered (suc q) rest
   unfolding deliveries_from sync_places_from without choose
   fault-place sync bad =
-      rw (ne_eqb (validation_of (byte ∷ rest)).verdict 0 bad, eq-eqb byte 0x_aa sync, not_in q _ (deliveries-least (suc q) rest)) refl
+      rw (ne_eqb (validation_of (byte ∷ rest)).verdict 0 bad, eq-eqb byte 0xAA sync, not_in q _ (deliveries-least (suc q) rest)) refl
 
   passed : is_fault (byte ∷ rest) ≡ false → faults_from q (byte ∷ rest) ≡ faults_from (suc q) rest
   unfolding faults_from choose
@@ -133,7 +133,7 @@ places-from q [] = refl
 places-from q (byte ∷ rest) =
     let t = byte ∷ rest in
     let later = places-from (suc q) rest in
-    dite (ℕ_discrete byte 0x_aa)
+    dite (ℕ_discrete byte 0xAA)
     (λ sync. dite (ℕ_discrete (validation_of t).verdict 0)
     (λ w. ap fault_places (passed q byte rest (whole-no-fault t sync w)) ∙ later ∙ sym (whole-place q byte rest sync w))
     (λ bad.
@@ -142,6 +142,6 @@ places-from q (byte ∷ rest) =
     ∙ sym (fault-place q byte rest sync bad)))
     (λ other. ap fault_places (passed q byte rest (no-sync-no-fault t other)) ∙ later ∙ sym (no-sync q byte rest other))
 
--- asked from the start until there is none, what is told stands at the places of the 0x_aa, in order, but those of the deliveries
+-- asked from the start until there is none, what is told stands at the places of the 0xAA, in order, but those of the deliveries
 pub faults-exactly : (s : List ℕ) (fs : List Fault) → Asked s 0 fs → fault_places fs ≡ without (delivery_positions (deliveries_from 0 s)) (sync_places_from 0 s)
 faults-exactly s fs asked = ap fault_places (asked-faults s 0 fs asked) ∙ places-from 0 s

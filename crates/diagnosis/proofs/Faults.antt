@@ -30,21 +30,21 @@ use Rattle.diagnosis.specs.Stage.{SaidOf, width}
 -- ── a stretch
 
 module _ (s : List ℕ) where
-  pub fault-is : get_or s 0 0 ≡ 0x_aa → (Whole s → ⊥) → is_fault s ≡ true
+  pub fault-is : get_or s 0 0 ≡ 0xAA → (Whole s → ⊥) → is_fault s ≡ true
   fault-is sync bad = rw (eq-eqb _ _ sync, ne_eqb _ _ bad) refl
 
-  pub no-sync-no-fault : (get_or s 0 0 ≡ 0x_aa → ⊥) → is_fault s ≡ false
+  pub no-sync-no-fault : (get_or s 0 0 ≡ 0xAA → ⊥) → is_fault s ≡ false
   no-sync-no-fault other = rw (ne_eqb _ _ other) refl
 
-  pub whole-no-fault : get_or s 0 0 ≡ 0x_aa → Whole s → is_fault s ≡ false
+  pub whole-no-fault : get_or s 0 0 ≡ 0xAA → Whole s → is_fault s ≡ false
   whole-no-fault sync w = rw (eq-eqb _ _ sync, eq-eqb _ _ w) refl
 
 module _ (s : List ℕ) (e : is_fault s ≡ true) where
-  pub fault-sync : get_or s 0 0 ≡ 0x_aa
-  fault-sync = eqb-true (get_or s 0 0) 0x_aa (both _ _ e).0
+  pub fault-sync : get_or s 0 0 ≡ 0xAA
+  fault-sync = eqb-true (get_or s 0 0) 0xAA (both _ _ e).0
 
   pub fault-not-whole : Whole s → ⊥
-  fault-not-whole w = true≢false (sym (rw (eq-eqb (validation_of s).verdict 0 w) at (both (eqb (get_or s 0 0) 0x_aa) (not (is_whole s)) e).1))
+  fault-not-whole w = true≢false (sym (rw (eq-eqb (validation_of s).verdict 0 w) at (both (eqb (get_or s 0 0) 0xAA) (not (is_whole s)) e).1))
 
 -- ── the byte wanted, by the verdict
 
@@ -155,7 +155,7 @@ unfolding next_fault
 next-by s at start e = ap first_of e
 
 -- a sync byte that gave no record is the first fault from there on
-pub next_here : (s : List ℕ) (at : ℕ) → at < length s → get_or s at 0 ≡ 0x_aa → (Whole (drop at s) → ⊥) → next_fault s at ≡ fault_of at (drop at s)
+pub next_here : (s : List ℕ) (at : ℕ) → at < length s → get_or s at 0 ≡ 0xAA → (Whole (drop at s) → ⊥) → next_fault s at ≡ fault_of at (drop at s)
 unfolding next_fault
 next_here s at inside sync bad = ap first_of (after-fault s at inside (fault-is (drop at s) (first-of s at ∙ sync) bad))
 

@@ -31,7 +31,7 @@ CleanTo s k = (i : ℕ) → i < k → fault_at s i ≡ 0
 
 -- the sync byte, a packet's version, a right checksum, or else 0
 unfoldable next_byte : List ℕ → ℕ
-next_byte p = choose (eqb (length p) 0) 0x_aa (choose (eqb (length p) 5) 0x10 (sum_at (rule_at (kind p) (length p)) p (length p)))
+next_byte p = choose (eqb (length p) 0) 0xAA (choose (eqb (length p) 5) 0x10 (sum_at (rule_at (kind p) (length p)) p (length p)))
 
 right-low : (rule : Rule) (p : List ℕ) (k : ℕ) → sum_at rule p k < 128
 right-low any p k = omega arith
@@ -71,8 +71,8 @@ module _ (p t : List ℕ) where
       ∙ ap (λ (r : Rule). breach r u k) (sym rule)
       ∙ right_kept (kind p) (rule_at (kind p) k) u k (fits (kind p) k) ne (here b ∙ e ∙ same-right (kind p) (follows b) (rule_at (kind p) k) (fits (kind p) k))
 
-  sync-next : length p ≡ 0 → fault_at (p ++ (0x_aa ∷ t)) (length p) ≡ 0
-  sync-next e = rw e (sync-right (p ++ (0x_aa ∷ t)) (rw e at (here 0x_aa)))
+  sync-next : length p ≡ 0 → fault_at (p ++ (0xAA ∷ t)) (length p) ≡ 0
+  sync-next e = rw e (sync-right (p ++ (0xAA ∷ t)) (rw e at (here 0xAA)))
 
   version-next : length p ≡ 5 → fault_at (p ++ (0x10 ∷ t)) (length p) ≡ 0
   unfolding kind_of rule_at header_rule header_length choose

@@ -55,7 +55,7 @@ breach-of s k v e big =
     dite (ℕ_discrete k 0)
     (λ first.
     let at_first : fault_at s 0 ≡ v = subst (λ (n : ℕ). fault_at s n ≡ v) first e in
-    absurd (dite (ℕ_discrete (get_or s 0 0) 0x_aa) (λ sync. omega (arith, at_first, sync-right s sync)) (λ other. omega (arith, at_first, sync-wrong s other))))
+    absurd (dite (ℕ_discrete (get_or s 0 0) 0xAA) (λ sync. omega (arith, at_first, sync-right s sync)) (λ other. omega (arith, at_first, sync-wrong s other))))
     (λ pos. dite (dec_lt (get_or s k 0) 0x80)
     (λ low. sym (fault-low s k (omega arith) low) ∙ e)
     (λ high. absurd (omega (arith, e, fault-high s k (omega arith) (omega arith)))))

@@ -1,13 +1,13 @@
--- Why a 0x_aa gave no record (request No. 4): the faults of a recording.
+-- Why a 0xAA gave no record (request No. 4): the faults of a recording.
 use Rattle.std.specs.Prelude.{ℕ, suc, Bool, true, false, not, ◌&&◌, ◌||◌, List, [], ◌∷◌, eqb, get_or, drop}
 use Rattle.basics.specs.Choice.{choose}
 use Rattle.stream.specs.Layout.{kind}
 use Rattle.stream.specs.Validation.{rule_at, sum_at, validation_of, is_whole}
 use Rattle.diagnosis.specs.declared.Fault.{Fault}
 
--- a 0x_aa that gave no record: the stretch from it on isn't V0
+-- a 0xAA that gave no record: the stretch from it on isn't V0
 abbrev pub is_fault : List ℕ → Bool
-is_fault s = eqb (get_or s 0 0) 0x_aa && not (is_whole s)
+is_fault s = eqb (get_or s 0 0) 0xAA && not (is_whole s)
 
 -- "byte found": at V7 the input has ended, and there is none
 abbrev pub has_byte_of : ℕ → Bool
@@ -39,7 +39,7 @@ fault_by q s v k =
 abbrev pub fault_of : ℕ → List ℕ → Fault
 fault_of q s = fault_by q s (validation_of s).verdict (validation_of s).offset
 
--- the faults of bytes that stand from place q on: "for each 0x_aa that gave no record, in order of place"
+-- the faults of bytes that stand from place q on: "for each 0xAA that gave no record, in order of place"
 unfoldable pub faults_from : ℕ → List ℕ → List Fault
 faults_from q [] = []
 faults_from q (byte ∷ rest) =

@@ -1,4 +1,4 @@
--- What it means that a fault's reason is true (request No. 4), and that the faults are those of the 0x_aa that gave no record.
+-- What it means that a fault's reason is true (request No. 4), and that the faults are those of the 0xAA that gave no record.
 use Rattle.std.specs.Prelude.{ℕ, suc, ◌+◌, Bool, true, false, ◌||◌, ◌≡◌, ◌≢◌, ◌↔◌, ◌⊎◌, List, [], ◌∷◌, ◌++◌, eqb, length, take, drop}
 use Rattle.basics.specs.Choice.{choose}
 use Rattle.stream.specs.Validation.{validation_of}
@@ -45,10 +45,10 @@ pub data Asked (s : List ℕ) : ℕ → List Fault → Type 0 where
   ended : (start : ℕ) → (next_fault s start).found ≡ false → Asked s start []
   again : (start : ℕ) (rest : List Fault) → (next_fault s start).found ≡ true → Asked s ((next_fault s start).place + 1) rest → Asked s start (next_fault s start ∷ rest)
 
--- the places that hold a 0x_aa, of bytes that stand from place q on
+-- the places that hold a 0xAA, of bytes that stand from place q on
 unfoldable pub sync_places_from : ℕ → List ℕ → List ℕ
 sync_places_from q [] = []
-sync_places_from q (byte ∷ rest) = choose (eqb byte 0x_aa) (q ∷ sync_places_from (suc q) rest) (sync_places_from (suc q) rest)
+sync_places_from q (byte ∷ rest) = choose (eqb byte 0xAA) (q ∷ sync_places_from (suc q) rest) (sync_places_from (suc q) rest)
 
 abbrev pub is_in : ℕ → List ℕ → Bool
 is_in x [] = false

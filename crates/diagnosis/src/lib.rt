@@ -1,4 +1,6 @@
 // Why a sync byte gave no record (request No. 4).
+#![tactic(auto)]
+
 ghost use Rattle.std.specs.Prelude.{◌≡◌, get_or};
 ghost use Rattle.diagnosis.specs.Fault.{has_wanted_of, wanted_at, fault_of, next_fault};
 ghost use Rattle.diagnosis.specs.Stage.{SaidOf, SumsAt};

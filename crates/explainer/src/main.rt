@@ -1,4 +1,6 @@
 // Explains a recording from standard input on standard output: all that it decides is `explanation::explain`.
+#![tactic(auto)]
+
 use explanation::ROOM;
 use listing::MOST;
 

@@ -22,15 +22,15 @@ use Rattle.explanation.specs.Explanation.{lines_of, explanation_of, output_of, e
 
 -- AA 11 44 10 66 10 00 02 01 21 07 04 0F 00 00, and the last byte, which is 65
 p1 : ℕ → List ℕ
-p1 last = 0x_aa ∷ 0x11 ∷ 0x44 ∷ 0x10 ∷ 0x66 ∷ 0x10 ∷ 0x00 ∷ 0x02 ∷ 0x01 ∷ 0x21 ∷ 0x07 ∷ 0x04 ∷ 0x0_f ∷ 0x00 ∷ 0x00 ∷ last ∷ []
+p1 last = 0xAA ∷ 0x11 ∷ 0x44 ∷ 0x10 ∷ 0x66 ∷ 0x10 ∷ 0x00 ∷ 0x02 ∷ 0x01 ∷ 0x21 ∷ 0x07 ∷ 0x04 ∷ 0x0F ∷ 0x00 ∷ 0x00 ∷ last ∷ []
 
 -- AA 20 00 11 19 20 00 01 00 00 00 00 00 00 00 14
 d1 : List ℕ
-d1 = 0x_aa ∷ 0x20 ∷ 0x00 ∷ 0x11 ∷ 0x19 ∷ 0x20 ∷ 0x00 ∷ 0x01 ∷ 0x00 ∷ 0x00 ∷ 0x00 ∷ 0x00 ∷ 0x00 ∷ 0x00 ∷ 0x00 ∷ 0x14 ∷ []
+d1 = 0xAA ∷ 0x20 ∷ 0x00 ∷ 0x11 ∷ 0x19 ∷ 0x20 ∷ 0x00 ∷ 0x01 ∷ 0x00 ∷ 0x00 ∷ 0x00 ∷ 0x00 ∷ 0x00 ∷ 0x00 ∷ 0x00 ∷ 0x14 ∷ []
 
 -- AA 10 20 31 77 30 01, and the last byte, which is 76
 t1 : ℕ → List ℕ
-t1 last = 0x_aa ∷ 0x10 ∷ 0x20 ∷ 0x31 ∷ 0x77 ∷ 0x30 ∷ 0x01 ∷ last ∷ []
+t1 last = 0xAA ∷ 0x10 ∷ 0x20 ∷ 0x31 ∷ 0x77 ∷ 0x30 ∷ 0x01 ∷ last ∷ []
 
 -- "D1 followed by T1 with last byte 77 gives the one line"
 wanted : output_of (d1 ++ t1 0x77) ≡ ascii "16 V4 7 77 76\n"
@@ -38,17 +38,17 @@ unfolding p1 d1 t1 lines_of line_of rest_text numbers_text byte_text remark_text
 wanted = refl
 
 -- "AA followed by P1 gives"
-cut_off : output_of (0x_aa ∷ p1 0x65) ≡ ascii "0 V2 1 AA cut off by a new stream\n"
+cut_off : output_of (0xAA ∷ p1 0x65) ≡ ascii "0 V2 1 AA cut off by a new stream\n"
 unfolding p1 d1 t1 lines_of line_of rest_text numbers_text byte_text remark_text decimal digits_within faults_from wanted_at validation_from stream_length kind_of choose header_length frame_width frame_count fault_at breach rule_at header_rule frame_rule checksum_from
 cut_off = refl
 
 -- a wrong frame checksum, no known version, another high byte, and the end, one behind the other
-others : output_of (p1 0x66 ++ (0x_aa ∷ 0x00 ∷ 0x00 ∷ 0x00 ∷ 0x00 ∷ 0x40 ∷ 0x_aa ∷ 0x00 ∷ 0x80 ∷ 0x_aa ∷ 0x00 ∷ []))
+others : output_of (p1 0x66 ++ (0xAA ∷ 0x00 ∷ 0x00 ∷ 0x00 ∷ 0x00 ∷ 0x40 ∷ 0xAA ∷ 0x00 ∷ 0x80 ∷ 0xAA ∷ 0x00 ∷ []))
     ≡ ascii "0 V6 15 66 65\n" ++ (ascii "16 V3 5 40\n" ++ (ascii "22 V2 2 80\n" ++ ascii "25 V7 2\n"))
 unfolding p1 d1 t1 lines_of line_of rest_text numbers_text byte_text remark_text decimal digits_within faults_from wanted_at validation_from stream_length kind_of choose header_length frame_width frame_count fault_at breach rule_at header_rule frame_rule checksum_from
 others = refl
 
--- no line at all where each 0x_aa gave a record, and where there is none
+-- no line at all where each 0xAA gave a record, and where there is none
 clean : output_of (d1 ++ (p1 0x65 ++ t1 0x76)) ≡ []
 unfolding p1 d1 t1 lines_of line_of rest_text numbers_text byte_text remark_text decimal digits_within faults_from wanted_at validation_from stream_length kind_of choose header_length frame_width frame_count fault_at breach rule_at header_rule frame_rule checksum_from
 clean = refl
@@ -86,21 +86,21 @@ fault place verdict offset has byte wants wanted =
     }
 
 -- the last place, and the largest offset
-last-place : line_of (fault 65535 6 771 true 0x0_f true 0x70) ≡ ascii "65535 V6 771 0F 70\n"
+last-place : line_of (fault 65535 6 771 true 0x0F true 0x70) ≡ ascii "65535 V6 771 0F 70\n"
 unfolding fault line_of rest_text numbers_text byte_text remark_text decimal digits_within choose
 last-place = refl
 
--- only V2 is cut off, and only by another 0x_aa
-other-high : is_cut_off (fault 0 2 1 true 0x_ab false 0) ≡ false
+-- only V2 is cut off, and only by another 0xAA
+other-high : is_cut_off (fault 0 2 1 true 0xAB false 0) ≡ false
 unfolding fault
 other-high = refl
 
-other-verdict : is_cut_off (fault 0 3 5 true 0x_aa false 0) ≡ false
+other-verdict : is_cut_off (fault 0 3 5 true 0xAA false 0) ≡ false
 unfolding fault
 other-verdict = refl
 
 -- what no call gives has a line too
-odd : line_of (fault 0 10 0 false 0x_aa true 0x_aa) ≡ ascii "0 V10 0 AA\n"
+odd : line_of (fault 0 10 0 false 0xAA true 0xAA) ≡ ascii "0 V10 0 AA\n"
 unfolding fault line_of rest_text numbers_text byte_text remark_text decimal digits_within choose
 odd = refl
 
@@ -116,10 +116,10 @@ room-6 : line_written shortest 6 ≡ record { number = 5; length = 0 }
 unfolding shortest fault room_refusal line_of rest_text numbers_text byte_text remark_text decimal digits_within choose
 room-6 = refl
 
-output-9 : line_after shortest (replicate 9 0x_ee) ≡ ascii "0 V7 1\n" ++ (0x_ee ∷ 0x_ee ∷ [])
+output-9 : line_after shortest (replicate 9 0xEE) ≡ ascii "0 V7 1\n" ++ (0xEE ∷ 0xEE ∷ [])
 unfolding shortest fault room_refusal line_of rest_text numbers_text byte_text remark_text decimal digits_within choose
 output-9 = refl
 
-output-6 : line_after shortest (replicate 6 0x_ee) ≡ replicate 6 0x_ee
+output-6 : line_after shortest (replicate 6 0xEE) ≡ replicate 6 0xEE
 unfolding shortest fault room_refusal line_of rest_text numbers_text byte_text remark_text decimal digits_within choose
 output-6 = refl

@@ -8,7 +8,7 @@ use Rattle.diagnosis.specs.Fault.{faults}
 use Rattle.diagnosis.specs.declared.Fault.{Fault}
 use Rattle.explanation.specs.Line.{line_of}
 
--- a line "for each 0x_aa that gave no record", and no heading line
+-- a line "for each 0xAA that gave no record", and no heading line
 unfoldable pub lines_of : List Fault → List ℕ
 lines_of [] = []
 lines_of (f ∷ rest) = line_of f ++ lines_of rest

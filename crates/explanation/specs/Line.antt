@@ -22,9 +22,9 @@ numbers_text place verdict offset = decimal place ++ (spaced (verdict_text verdi
 unfoldable pub byte_text : Bool → ℕ → List ℕ
 byte_text has byte = choose has (spaced (hex_byte byte)) []
 
--- "Where V2 was another 0x_aa"
+-- "Where V2 was another 0xAA"
 abbrev pub is_cut_off : Fault → Bool
-is_cut_off f = eqb f.verdict 2 && eqb f.byte 0x_aa
+is_cut_off f = eqb f.verdict 2 && eqb f.byte 0xAA
 
 unfoldable pub remark_text : Bool → List ℕ
 remark_text cut = choose cut (spaced (ascii "cut off by a new stream")) []

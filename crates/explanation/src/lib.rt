@@ -1,4 +1,6 @@
 // Why sync bytes gave no record, as text: a line for each (request No. 4).
+#![tactic(auto)]
+
 ghost use Rattle.std.specs.Prelude.{◌≡◌, length};
 ghost use Rattle.explanation.specs.Line.{line_written, line_after};
 ghost use Rattle.explanation.specs.Explanation.{explained_of, explained_after};

@@ -60,7 +60,7 @@ fn is_cut_off(fault: Fault) -> bool
     ensures { result ≡ lines.is_cut_off fault }
 {
     if fault.verdict == 2 {
-        return fault.byte == 0x_aa;
+        return fault.byte == 0xAA;
     }
     false
 }

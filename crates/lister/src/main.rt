@@ -1,4 +1,6 @@
 // Lists a recording from standard input to standard output: all that it decides is `listing::list`.
+#![tactic(auto)]
+
 use listing::{MOST, ROOM};
 
 fn main() {

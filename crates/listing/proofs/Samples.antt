@@ -17,15 +17,15 @@ use Rattle.listing.specs.Listing.{lines_of, listing_of, limited, output_of, list
 
 -- AA 11 44 10 66 10 00 02 01 21 07 04 0F 00 00 65
 p1 : List ℕ
-p1 = 0x_aa ∷ 0x11 ∷ 0x44 ∷ 0x10 ∷ 0x66 ∷ 0x10 ∷ 0x00 ∷ 0x02 ∷ 0x01 ∷ 0x21 ∷ 0x07 ∷ 0x04 ∷ 0x0_f ∷ 0x00 ∷ 0x00 ∷ 0x65 ∷ []
+p1 = 0xAA ∷ 0x11 ∷ 0x44 ∷ 0x10 ∷ 0x66 ∷ 0x10 ∷ 0x00 ∷ 0x02 ∷ 0x01 ∷ 0x21 ∷ 0x07 ∷ 0x04 ∷ 0x0F ∷ 0x00 ∷ 0x00 ∷ 0x65 ∷ []
 
 -- AA 20 00 11 19 20 00 01 00 00 00 00 00 00 00 14
 d1 : List ℕ
-d1 = 0x_aa ∷ 0x20 ∷ 0x00 ∷ 0x11 ∷ 0x19 ∷ 0x20 ∷ 0x00 ∷ 0x01 ∷ 0x00 ∷ 0x00 ∷ 0x00 ∷ 0x00 ∷ 0x00 ∷ 0x00 ∷ 0x00 ∷ 0x14 ∷ []
+d1 = 0xAA ∷ 0x20 ∷ 0x00 ∷ 0x11 ∷ 0x19 ∷ 0x20 ∷ 0x00 ∷ 0x01 ∷ 0x00 ∷ 0x00 ∷ 0x00 ∷ 0x00 ∷ 0x00 ∷ 0x00 ∷ 0x00 ∷ 0x14 ∷ []
 
 -- AA 31 77 10 20 30 23 54 38 10 0D 36 46 23 00 1A 71
 t2 : List ℕ
-t2 = 0x_aa ∷ 0x31 ∷ 0x77 ∷ 0x10 ∷ 0x20 ∷ 0x30 ∷ 0x23 ∷ 0x54 ∷ 0x38 ∷ 0x10 ∷ 0x0_d ∷ 0x36 ∷ 0x46 ∷ 0x23 ∷ 0x00 ∷ 0x1_a ∷ 0x71 ∷ []
+t2 = 0xAA ∷ 0x31 ∷ 0x77 ∷ 0x10 ∷ 0x20 ∷ 0x30 ∷ 0x23 ∷ 0x54 ∷ 0x38 ∷ 0x10 ∷ 0x0D ∷ 0x36 ∷ 0x46 ∷ 0x23 ∷ 0x00 ∷ 0x1A ∷ 0x71 ∷ []
 
 -- fed P1, D1, T2 one after the other, the whole output is these three lines
 example : output_of (p1 ++ (d1 ++ t2))
@@ -57,7 +57,7 @@ room-less s = refl
 -- a line with no payload, which ends after the command
 abbrev without : ℕ → ℕ → List ℕ
 without version command =
-    line_of (record { header = record { version = version; destination = 0x_abcd; source = 0x_ef01; command = command }; payload = [] })
+    line_of (record { header = record { version = version; destination = 0xABCD; source = 0xEF01; command = command }; payload = [] })
 
 -- a packet's and a datagram's command takes four digits, a telegram's two
 packet-0023 : without 0x10 0x23 ≡ ascii "P ABCD EF01 10 0023\n"
@@ -68,7 +68,7 @@ datagram-0023 : without 0x20 0x23 ≡ ascii "D ABCD EF01 20 0023\n"
 unfolding line_of hex_head hex_payload hex_command kind_of choose
 datagram-0023 = refl
 
-telegram-FF : without 0x31 0x_ff ≡ ascii "T ABCD EF01 31 FF\n"
+telegram-FF : without 0x31 0xFF ≡ ascii "T ABCD EF01 31 FF\n"
 unfolding line_of hex_head hex_payload hex_command kind_of choose
 telegram-FF = refl
 
@@ -93,10 +93,10 @@ room-17 : line_written shortest 17 ≡ record { number = 5; length = 0 }
 unfolding shortest room_refusal line_of hex_head hex_payload hex_command kind_of choose
 room-17 = refl
 
-output-20 : line_after shortest (replicate 20 0x_ee) ≡ line_of shortest ++ (0x_ee ∷ 0x_ee ∷ [])
+output-20 : line_after shortest (replicate 20 0xEE) ≡ line_of shortest ++ (0xEE ∷ 0xEE ∷ [])
 unfolding shortest room_refusal line_of hex_head hex_payload hex_command kind_of choose
 output-20 = refl
 
-output-17 : line_after shortest (replicate 17 0x_ee) ≡ replicate 17 0x_ee
+output-17 : line_after shortest (replicate 17 0xEE) ≡ replicate 17 0xEE
 unfolding shortest room_refusal line_of hex_head hex_payload hex_command kind_of choose
 output-17 = refl

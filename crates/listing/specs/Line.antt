@@ -23,7 +23,7 @@ letter Datagram = code "D"
 letter Telegram = code "T"
 letter Unknown = code "?"
 
--- a telegram's command is a byte; one above 0x_ff, which no delivered record has, takes four digits as any other command does
+-- a telegram's command is a byte; one above 0xFF, which no delivered record has, takes four digits as any other command does
 abbrev pub is_byte : Kind → ℕ → Bool
 is_byte Packet command = false
 is_byte Datagram command = false

@@ -1,4 +1,6 @@
 // A recording as text: a line for each record.
+#![tactic(auto)]
+
 ghost use Rattle.std.specs.Prelude.{◌≡◌, length, take};
 ghost use Rattle.listing.specs.Line.{line_written, line_after};
 ghost use Rattle.listing.specs.Listing.{listed_of, listed_after};

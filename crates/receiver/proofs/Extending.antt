@@ -20,33 +20,33 @@ use Rattle.receiver.specs.declared.Receiver.{Receiver}
 -- ── the held bytes with one more
 
 module _ (h : List ℕ) (byte : ℕ) where
-  pub extended-sync : byte ≡ 0x_aa → extended h byte ≡ byte ∷ []
+  pub extended-sync : byte ≡ 0xAA → extended h byte ≡ byte ∷ []
   unfolding extended choose
-  extended-sync e = rw (eq-eqb byte 0x_aa e)
+  extended-sync e = rw (eq-eqb byte 0xAA e)
 
-  pub extended-high : (byte ≡ 0x_aa → ⊥) → 0x80 ≤ byte → extended h byte ≡ []
+  pub extended-high : (byte ≡ 0xAA → ⊥) → 0x80 ≤ byte → extended h byte ≡ []
   unfolding extended choose
-  extended-high other high = rw (ne_eqb byte 0x_aa other, le-leb 0x80 byte high)
+  extended-high other high = rw (ne_eqb byte 0xAA other, le-leb 0x80 byte high)
 
   pub extended_none : byte < 0x80 → length h ≡ 0 → extended h byte ≡ []
   unfolding extended choose
-  extended_none low empty = rw (ne_eqb byte 0x_aa (λ e. omega arith), lt-leb 0x80 byte low, eq-eqb (length h) 0 empty)
+  extended_none low empty = rw (ne_eqb byte 0xAA (λ e. omega arith), lt-leb 0x80 byte low, eq-eqb (length h) 0 empty)
 
   pub extended-low : byte < 0x80 → 0 < length h → extended h byte ≡ h ++ (byte ∷ [])
   unfolding extended choose
-  extended-low low there = rw (ne_eqb byte 0x_aa (λ e. omega arith), lt-leb 0x80 byte low, ne_eqb (length h) 0 (λ e. omega arith))
+  extended-low low there = rw (ne_eqb byte 0xAA (λ e. omega arith), lt-leb 0x80 byte low, ne_eqb (length h) 0 (λ e. omega arith))
 
 -- of a byte of 0x80 or more it doesn't matter what is held
 pub same-high : (h : List ℕ) (byte : ℕ) → 0x80 ≤ byte → extended h byte ≡ extended [] byte
 same-high h byte high =
-    dite (ℕ_discrete byte 0x_aa) (λ e. extended-sync h byte e ∙ sym (extended-sync [] byte e))
+    dite (ℕ_discrete byte 0xAA) (λ e. extended-sync h byte e ∙ sym (extended-sync [] byte e))
     (λ other. extended-high h byte other high ∙ sym (extended-high [] byte other high))
 
 -- the three things that a byte can do
 pub extended-by : (P : List ℕ → Type 0) (h : List ℕ) (byte : ℕ)
-    → (byte ≡ 0x_aa → P (byte ∷ [])) → P [] → (byte < 0x80 → 0 < length h → P (h ++ (byte ∷ []))) → P (extended h byte)
+    → (byte ≡ 0xAA → P (byte ∷ [])) → P [] → (byte < 0x80 → 0 < length h → P (h ++ (byte ∷ []))) → P (extended h byte)
 extended-by P h byte begins ends adds =
-    dite (ℕ_discrete byte 0x_aa) (λ e. rw (extended-sync h byte e) (begins e))
+    dite (ℕ_discrete byte 0xAA) (λ e. rw (extended-sync h byte e) (begins e))
     (λ other. dite (dec_lt byte 0x80)
     (λ low. dite (ℕ_discrete (length h) 0)
     (λ e. rw (extended_none h byte low e) ends)

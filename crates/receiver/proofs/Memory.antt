@@ -68,7 +68,7 @@ module _ (receiver : Receiver) (memory : List ℕ) where
 -- ── a byte of 0x80 or more
 
 module _ (memory : List ℕ) (byte : ℕ) where
-  pub begins : byte ≡ 0x_aa → 0 < length memory → TookByte [] byte (set memory 0 byte) (record { held = 1; least = 6 })
+  pub begins : byte ≡ 0xAA → 0 < length memory → TookByte [] byte (set memory 0 byte) (record { held = 1; least = 6 })
   begins e some =
       let one : take 1 (set memory 0 byte) ≡ byte ∷ [] = take-suc-set memory 0 byte some in
       let six = length-early (byte ∷ []) (omega arith) in
@@ -76,7 +76,7 @@ module _ (memory : List ℕ) (byte : ℕ) where
       (record { short = omega arith; announced = rw one (omega (arith, six)); most = rw one (omega (arith, six)) })
       (one ∙ sym (extended-sync [] byte e))
 
-  pub ends : (byte ≡ 0x_aa → ⊥) → 0x80 ≤ byte → TookByte [] byte memory (record { held = 0; least = 6 })
+  pub ends : (byte ≡ 0xAA → ⊥) → 0x80 ≤ byte → TookByte [] byte memory (record { held = 0; least = 6 })
   ends other high = unfinished (holding-nothing memory) (sym (extended-high [] byte other high))
 
 -- whatever is held doesn't matter then

@@ -25,11 +25,11 @@ use Rattle.receiver.proofs.Extending.{extended-sync, extended-high, extended_non
 -- what a receiver that began fresh may hold: nothing, or an unfinished stream
 pub data Held : List ℕ → Type 0 where
   none : Held []
-  some : (l : List ℕ) → AllBelow 128 l → suc (length l) < stream_length (0x_aa ∷ l) → stream_length (0x_aa ∷ l) ≤ 772 → Held (0x_aa ∷ l)
+  some : (l : List ℕ) → AllBelow 128 l → suc (length l) < stream_length (0xAA ∷ l) → stream_length (0xAA ∷ l) ≤ 772 → Held (0xAA ∷ l)
 
 pub held_kept : (h : List ℕ) → Held h → kept h ≡ h
 held_kept h none = kept-early [] (omega arith)
-held_kept h (some l low short most) = kept-short (0x_aa ∷ l) short most
+held_kept h (some l low short most) = kept-short (0xAA ∷ l) short most
 
 -- ── positions that deliver nothing
 
@@ -49,15 +49,15 @@ cut_off s byte t some_bytes short high w =
 ended : (p : ℕ) (h : List ℕ) → Held h → (byte : ℕ) (t : List ℕ) → 0x80 ≤ byte → deliveries_from p (h ++ (byte ∷ t)) ≡ deliveries_from (p + length h) (byte ∷ t)
 ended p h none byte t high = rw (add-zero p)
 ended p h (some l low short most) byte t high =
-    passed-low p 0x_aa l (byte ∷ t) low (cut_off (0x_aa ∷ l) byte t (omega arith) short high)
+    passed-low p 0xAA l (byte ∷ t) low (cut_off (0xAA ∷ l) byte t (omega arith) short high)
 
 -- what is held delivers nothing yet
 pub held-nothing : (p : ℕ) (h : List ℕ) → Held h → deliveries_from p h ≡ []
 unfolding deliveries_from
 held-nothing p h none = refl
 held-nothing p h (some l low short most) =
-    ap (deliveries_from p) (sym (append-nil (0x_aa ∷ l)))
-    ∙ passed-low p 0x_aa l [] low (λ w. omega (arith, (whole-clean (0x_aa ∷ l) (rw (append-nil l) at w)).held))
+    ap (deliveries_from p) (sym (append-nil (0xAA ∷ l)))
+    ∙ passed-low p 0xAA l [] low (λ w. omega (arith, (whole-clean (0xAA ∷ l) (rw (append-nil l) at w)).held))
 
 -- ── a byte that completes no stream
 
@@ -73,17 +73,17 @@ dropped : (p byte : ℕ) (h k : List ℕ) → k ≡ [] → ((t : List ℕ) → d
 dropped p byte h k e same = rw e (record { position = suc (p + length h); there = omega arith; held = none; same = same })
 
 module _ (p byte : ℕ) (h : List ℕ) where
-  onward-sync : Held h → byte ≡ 0x_aa → Onward p byte h (kept (extended h byte))
+  onward-sync : Held h → byte ≡ 0xAA → Onward p byte h (kept (extended h byte))
   onward-sync held e =
-      let one : stream_length (0x_aa ∷ []) ≡ 6 = length-early (0x_aa ∷ []) (omega arith) in
+      let one : stream_length (0xAA ∷ []) ≡ 6 = length-early (0xAA ∷ []) (omega arith) in
       rw (extended-sync h byte e, kept-early (byte ∷ []) (omega arith), e) (record {
         position = p + length h;
         there = omega arith;
         held = some [] tt (omega (arith, one)) (omega (arith, one));
-        same = λ t. ended p h held 0x_aa t (omega arith);
+        same = λ t. ended p h held 0xAA t (omega arith);
       })
 
-  onward-high : Held h → (byte ≡ 0x_aa → ⊥) → 0x80 ≤ byte → Onward p byte h (kept (extended h byte))
+  onward-high : Held h → (byte ≡ 0xAA → ⊥) → 0x80 ≤ byte → Onward p byte h (kept (extended h byte))
   onward-high held other high =
       dropped p byte h (kept (extended h byte)) (ap kept (extended-high h byte other high) ∙ kept-early [] (omega arith))
       (λ t. ended p h held byte t high ∙ passed (p + length h) byte t (λ w. other (whole-sync (byte ∷ t) w)))
@@ -100,13 +100,13 @@ pub record Completes (p byte : ℕ) (h s : List ℕ) : Type 0 where
   pub same : (t : List ℕ) → deliveries_from p (h ++ (byte ∷ t)) ≡ delivery_at p s ∷ deliveries_from (suc (p + length h)) t
 
 -- a low byte behind a stream's beginning
-module _ (p byte : ℕ) (l : List ℕ) (below : AllBelow 128 l) (short : suc (length l) < stream_length (0x_aa ∷ l)) (most : stream_length (0x_aa ∷ l) ≤ 772) (low : byte < 0x80) where
+module _ (p byte : ℕ) (l : List ℕ) (below : AllBelow 128 l) (short : suc (length l) < stream_length (0xAA ∷ l)) (most : stream_length (0xAA ∷ l) ≤ 772) (low : byte < 0x80) where
   longer : List ℕ
   longer = l ++ (byte ∷ [])
 
-  is-longer : extended (0x_aa ∷ l) byte ≡ 0x_aa ∷ longer
+  is-longer : extended (0xAA ∷ l) byte ≡ 0xAA ∷ longer
   unfolding longer
-  is-longer = extended-low (0x_aa ∷ l) byte low (omega arith)
+  is-longer = extended-low (0xAA ∷ l) byte low (omega arith)
 
   all-low : AllBelow 128 longer
   unfolding longer
@@ -117,43 +117,43 @@ module _ (p byte : ℕ) (l : List ℕ) (below : AllBelow 128 l) (short : suc (le
   size = length-append l (byte ∷ []) ∙ omega arith
 
   -- it is at most as long as it announces
-  reaches : suc (length longer) ≤ stream_length (0x_aa ∷ longer)
+  reaches : suc (length longer) ≤ stream_length (0xAA ∷ longer)
   unfolding longer
-  reaches = omega (arith, size, length-grows (0x_aa ∷ l) (byte ∷ []))
+  reaches = omega (arith, size, length-grows (0xAA ∷ l) (byte ∷ []))
 
-  split : (t : List ℕ) → (0x_aa ∷ l) ++ (byte ∷ t) ≡ 0x_aa ∷ (longer ++ t)
+  split : (t : List ℕ) → (0xAA ∷ l) ++ (byte ∷ t) ≡ 0xAA ∷ (longer ++ t)
   unfolding longer
-  split t = ap {B = List ℕ} (λ r. 0x_aa ∷ r) (sym (append_assoc l (byte ∷ []) t))
+  split t = ap {B = List ℕ} (λ r. 0xAA ∷ r) (sym (append_assoc l (byte ∷ []) t))
 
-  onward-short : suc (length longer) < stream_length (0x_aa ∷ longer) → Onward p byte (0x_aa ∷ l) (kept (0x_aa ∷ longer))
+  onward-short : suc (length longer) < stream_length (0xAA ∷ longer) → Onward p byte (0xAA ∷ l) (kept (0xAA ∷ longer))
   unfolding longer
   onward-short less =
-      let fits = length-next (0x_aa ∷ l) byte low most in
-      rw (kept-short (0x_aa ∷ longer) less fits) (record {
+      let fits = length-next (0xAA ∷ l) byte low most in
+      rw (kept-short (0xAA ∷ longer) less fits) (record {
         position = p;
         there = omega (arith, size);
         held = some longer all-low less fits;
         same = λ t. ap (deliveries_from p) (split t);
       })
 
-  onward-full : (Whole (0x_aa ∷ longer) → ⊥) → suc (length longer) ≡ stream_length (0x_aa ∷ longer) → Onward p byte (0x_aa ∷ l) (kept (0x_aa ∷ longer))
+  onward-full : (Whole (0xAA ∷ longer) → ⊥) → suc (length longer) ≡ stream_length (0xAA ∷ longer) → Onward p byte (0xAA ∷ l) (kept (0xAA ∷ longer))
   onward-full faulty full =
-      let alone : (t : List ℕ) → Whole (0x_aa ∷ (longer ++ t)) → ⊥ =
-      λ t w. faulty (whole-alone (0x_aa ∷ longer) t w ((whole-clean (0x_aa ∷ (longer ++ t)) w).offset ∙ length-settled (0x_aa ∷ longer) t (omega arith) ∙ sym full)) in
-      dropped p byte (0x_aa ∷ l) (kept (0x_aa ∷ longer)) (kept-long (0x_aa ∷ longer) (omega arith))
+      let alone : (t : List ℕ) → Whole (0xAA ∷ (longer ++ t)) → ⊥ =
+      λ t w. faulty (whole-alone (0xAA ∷ longer) t w ((whole-clean (0xAA ∷ (longer ++ t)) w).offset ∙ length-settled (0xAA ∷ longer) t (omega arith) ∙ sym full)) in
+      dropped p byte (0xAA ∷ l) (kept (0xAA ∷ longer)) (kept-long (0xAA ∷ longer) (omega arith))
       (λ t.
       ap (deliveries_from p) (split t)
-      ∙ passed-low p 0x_aa longer t all-low (alone t)
+      ∙ passed-low p 0xAA longer t all-low (alone t)
       ∙ ap (λ (n : ℕ). deliveries_from n t) (omega (arith, size)))
 
-  onward-low : (Whole (0x_aa ∷ longer) → ⊥) → Onward p byte (0x_aa ∷ l) (kept (0x_aa ∷ longer))
+  onward-low : (Whole (0xAA ∷ longer) → ⊥) → Onward p byte (0xAA ∷ l) (kept (0xAA ∷ longer))
   onward-low faulty =
-      dite (dec_lt (suc (length longer)) (stream_length (0x_aa ∷ longer))) onward-short
+      dite (dec_lt (suc (length longer)) (stream_length (0xAA ∷ longer))) onward-short
       (λ full. onward-full faulty (omega (arith, reaches)))
 
-  completes-low : Whole (0x_aa ∷ longer) → Completes p byte (0x_aa ∷ l) (0x_aa ∷ longer)
+  completes-low : Whole (0xAA ∷ longer) → Completes p byte (0xAA ∷ l) (0xAA ∷ longer)
   completes-low w =
-      let s : List ℕ = 0x_aa ∷ longer in
+      let s : List ℕ = 0xAA ∷ longer in
       let whole = whole-clean s w in
       let offset : (validation_of s).offset ≡ suc (length longer) = omega (arith, whole.offset, whole.held, reaches) in
       record {
@@ -172,7 +172,7 @@ module _ (p byte : ℕ) (l : List ℕ) (below : AllBelow 128 l) (short : suc (le
 
 pub onward : (p byte : ℕ) (h : List ℕ) → Held h → (Whole (extended h byte) → ⊥) → Onward p byte h (kept (extended h byte))
 onward p byte h held faulty =
-    dite (ℕ_discrete byte 0x_aa) (onward-sync p byte h held)
+    dite (ℕ_discrete byte 0xAA) (onward-sync p byte h held)
     (λ other. dite (dec_lt byte 0x80) (by-held h held faulty) (λ high. onward-high p byte h held other (omega arith)))
   where
     by-held : (h : List ℕ) → Held h → (Whole (extended h byte) → ⊥) → byte < 0x80 → Onward p byte h (kept (extended h byte))
@@ -187,7 +187,7 @@ few-whole s few w = omega (arith, (whole-clean s w).held, length-early s (omega 
 
 pub completes : (p byte : ℕ) (h : List ℕ) → Held h → Whole (extended h byte) → Completes p byte h (extended h byte)
 completes p byte h held w =
-    dite (ℕ_discrete byte 0x_aa)
+    dite (ℕ_discrete byte 0xAA)
     (λ e. absurd (few-whole (extended h byte) (rw (extended-sync h byte e) (omega arith)) w))
     (λ other. dite (dec_lt byte 0x80) (by-held h held w)
     (λ high. absurd (few-whole (extended h byte) (rw (extended-high h byte other (omega arith)) (omega arith)) w)))

@@ -3,11 +3,11 @@ use Rattle.std.specs.Prelude.{ℕ, Bool, ◌&&◌, List, [], ◌∷◌, ◌++◌
 use Rattle.basics.specs.Choice.{choose}
 use Rattle.stream.specs.Layout.{stream_length}
 
--- the held bytes with one more: 0x_aa begins a stream, and any other byte of 0x80 or more ends the one that is held; where none is
+-- the held bytes with one more: 0xAA begins a stream, and any other byte of 0x80 or more ends the one that is held; where none is
 -- held, a byte below 0x80 is of no use
 unfoldable pub extended : List ℕ → ℕ → List ℕ
 extended held byte =
-    choose (eqb byte 0x_aa) (byte ∷ [])
+    choose (eqb byte 0xAA) (byte ∷ [])
     (choose (leb 0x80 byte) []
     (choose (eqb (length held) 0) [] (held ++ (byte ∷ []))))
 

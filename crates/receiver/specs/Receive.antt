@@ -60,7 +60,7 @@ answer_of f used receiver =
     }
 
 -- the delivery of the stream that was completed, or none, where so many bytes were used before the chunk. No. 5: "the position of its
--- 0x_aa": the stream ends with the last byte used
+-- 0xAA": the stream ends with the last byte used
 abbrev pub completed_in : ℕ → Outcome → List Delivery
 completed_in before o = beginning (before + o.used - length o.stream) o.stream
 

@@ -43,12 +43,12 @@ pub fn restore(receiver: Receiver, memory: &[u8]) -> Unfinished
     Unfinished { held, least }
 }
 
-// A byte of 0x80 or more: 0x_aa begins a stream, any other ends the one that is held.
+// A byte of 0x80 or more: 0xAA begins a stream, any other ends the one that is held.
 fn begin(memory: &mut [u8], byte: u8) -> Unfinished
     requires { (length memory.old ≡ 772) × (0x80 ≤ byte) }
     ensures { TookByte [] byte memory.new result }
 {
-    if byte == 0x_aa {
+    if byte == 0xAA {
         memory[0] = byte;
         return Unfinished { held: 1, least: 6 };
     }

@@ -1,4 +1,6 @@
 // A receiver: bytes off the wire in chunks, as a port hands them over (document 02, No. 1: scraps).
+#![tactic(auto)]
+
 ghost use Rattle.std.specs.Prelude.{◌≡◌, ◌+◌, ◌^◌, ◌≤◌, ◌<◌, length, take};
 ghost use Rattle.basics.specs.Bytes.{over};
 ghost use Rattle.recording.specs.Next.{payload_of};
@@ -21,7 +23,7 @@ pub struct Receiver {
     pub position: u64,
 }
 
-// The record of a stream that was completed: the position of its 0x_aa among all bytes used, how long the stream is, its header, and how
+// The record of a stream that was completed: the position of its 0xAA among all bytes used, how long the stream is, its header, and how
 // long its payload is; all zero where there is none. How many bytes of the chunk were used, and the state afterwards.
 #[repr(C)]
 #[derive(Drop)]
@@ -121,7 +123,7 @@ pub fn receive(receiver: Receiver, memory: &mut [u8; 772], chunk: &[u8], out: &m
         return without(5, 0, receiver);
     }
     // Subtracted, since the sum itself may be too large.
-    if 0x_ffff_ffff_ffff_ffff - receiver.position < chunk.len() as u64 {
+    if 0xFFFF_FFFF_FFFF_FFFF - receiver.position < chunk.len() as u64 {
         return without(12, 0, receiver);
     }
     feed(receiver, memory, chunk, out)

@@ -45,13 +45,13 @@ CommandLow Unknown command = Unit {0}
 low-command : (K : Kind) (command : ℕ) → command < 65536 → high_command K command ≡ false → CommandLow K command
 low-command Packet command fits h = low_word command fits h
 low-command Datagram command fits h = low_word command fits h
-low-command Telegram command fits h = omega (arith, ltb-false 0x7_f command h)
+low-command Telegram command fits h = omega (arith, ltb-false 0x7F command h)
 low-command Unknown command fits h = tt
 
 not-high-command : (K : Kind) (command : ℕ) → CommandLow K command → high_command K command ≡ false
 not-high-command Packet command low = not-high command low
 not-high-command Datagram command low = not-high command low
-not-high-command Telegram command low = le-ltb 0x7_f command (omega arith)
+not-high-command Telegram command low = le-ltb 0x7F command (omega arith)
 not-high-command Unknown command low = refl
 
 -- what a header of a kind and its frames can carry

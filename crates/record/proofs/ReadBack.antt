@@ -77,7 +77,7 @@ known K r carried e = true≢false (sym (ap is_unknown e) ∙ carried.known)
 
 -- the sync byte, the header, and what follows
 abbrev begun : Kind → List ℕ → Record → List ℕ → List ℕ
-begun K u r rest = 0x_aa ∷ (with_checksum (header_bytes K u r) ++ rest)
+begun K u r rest = 0xAA ∷ (with_checksum (header_bytes K u r) ++ rest)
 
 module _ (u : List ℕ) (r : Record) (rest : List ℕ) where
   count-read : (K : Kind) → frame_count K (begun K u r rest) ≡ frames_in K r
@@ -130,7 +130,7 @@ behind-first a l (suc k) low pos = get_d-below 128 l low (omega arith) k
 
 parts : (u : List ℕ) (r : Record) (t : List ℕ) → stream_with u r ++ t ≡ begun (kind_in r) u r (frames_bytes (kind_in r) u r ++ t)
 unfolding stream_with stream_as
-parts u r t = ap {B = List ℕ} (λ l. 0x_aa ∷ l) (append_assoc (with_checksum (header_bytes (kind_in r) u r)) (frames_bytes (kind_in r) u r) t)
+parts u r t = ap {B = List ℕ} (λ l. 0xAA ∷ l) (append_assoc (with_checksum (header_bytes (kind_in r) u r)) (frames_bytes (kind_in r) u r) t)
 
 module _ (u : List ℕ) (r : Record) (w : Writable r) (fits : UnusedFor u r) where
   carried : Carried (kind_in r) r
@@ -146,7 +146,7 @@ module _ (u : List ℕ) (r : Record) (w : Writable r) (fits : UnusedFor u r) whe
   )
 
   -- every byte after the first is below 0x80
-  tail : (l : List ℕ) × (stream_with u r ≡ 0x_aa ∷ l) × AllBelow 128 l
+  tail : (l : List ℕ) × (stream_with u r ≡ 0xAA ∷ l) × AllBelow 128 l
   unfolding stream_with stream_as
   tail =
       let header = header_bytes (kind_in r) u r in (
@@ -158,7 +158,7 @@ module _ (u : List ℕ) (r : Record) (w : Writable r) (fits : UnusedFor u r) whe
       )
 
   low : (k : ℕ) → 0 < k → get_or (stream_with u r) k 0 < 128
-  low k pos = rw tail.1 (behind-first 0x_aa tail.0 k tail.2 pos)
+  low k pos = rw tail.1 (behind-first 0xAA tail.0 k tail.2 pos)
 
   announced : (t : List ℕ) → stream_length (stream_with u r ++ t) ≡ length (stream_with u r)
   unfolding stream_with stream_as stream_length
@@ -174,7 +174,7 @@ module _ (u : List ℕ) (r : Record) (w : Writable r) (fits : UnusedFor u r) whe
         sum = rw (parts u r t) (sum-read u r (frames_bytes (kind_in r) u r ++ t) (kind_in r) carried);
         frames = rw (parts u r t) (λ f h.
             frame-drop (frame_width (kind_in r)) (begun (kind_in r) u r (frames_bytes (kind_in r) u r ++ t)) (header_length (kind_in r)) ((frame_width (kind_in r) + 2) * f)
-            (rw (drop_at (0x_aa ∷ with_checksum (header_bytes (kind_in r) u r)) (frames_bytes (kind_in r) u r ++ t) (header_length (kind_in r)) (header-sized (kind_in r) u r carried))
+            (rw (drop_at (0xAA ∷ with_checksum (header_bytes (kind_in r) u r)) (frames_bytes (kind_in r) u r ++ t) (header_length (kind_in r)) (header-sized (kind_in r) u r carried))
             (framed-sum (frame_width (kind_in r)) (frames_in (kind_in r) r) u r.payload t (enough (kind_in r) r carried) f
             (rw (count-read u r (frames_bytes (kind_in r) u r ++ t) (kind_in r)) at h))));
       }
@@ -221,13 +221,13 @@ kind-none Unknown u r none = refl
 pub with_none : (u : List ℕ) (r : Record) → count_nonzero u ≡ 0 → stream_with u r ≡ stream_of r
 unfolding stream_of stream_with stream_as
 with_none u r none =
-    ap₂ (λ (header : List ℕ) (frames : List ℕ). 0x_aa ∷ (with_checksum (address_bytes r.header ++ header) ++ frames))
+    ap₂ (λ (header : List ℕ) (frames : List ℕ). 0xAA ∷ (with_checksum (address_bytes r.header ++ header) ++ frames))
     (kind-none (kind_in r) u r none)
     (framed-none (frame_width (kind_in r)) (frames_in (kind_in r) r) u r.payload none)
 
 module _ (r : Record) (w : Writable r) where
   -- every byte after the first is below 0x80
-  pub stream_of-tail : (l : List ℕ) × (stream_of r ≡ 0x_aa ∷ l) × AllBelow 128 l
+  pub stream_of-tail : (l : List ℕ) × (stream_of r ≡ 0xAA ∷ l) × AllBelow 128 l
   unfolding stream_of
   stream_of-tail = tail [] r w (none-fit r)
 

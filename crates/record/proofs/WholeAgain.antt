@@ -209,7 +209,7 @@ kind-again Telegram s whole held =
 kind-again Unknown s whole held = absurd whole.sum
 
 header-again : (K : Kind) (s : List ℕ) → WholeAs K s → length_as K s ≤ length s
-    → 0x_aa ∷ with_checksum (address_bytes (record_as K s).header ++ kind_bytes K (unused_in K s) (record_as K s)) ≡ take (header_length K) s
+    → 0xAA ∷ with_checksum (address_bytes (record_as K s).header ++ kind_bytes K (unused_in K s) (record_as K s)) ≡ take (header_length K) s
 header-again K s whole held =
     let k = kind-again K s whole held in
     let n = 5 + k.size in
@@ -219,7 +219,7 @@ header-again K s whole held =
     let sum : get_or (drop 1 s) n 0 ≡ checksum_of (take n (drop 1 s)) = rw (get_or-drop 1 s n 0, place) k.sum in
     let behind : with_checksum (take n (drop 1 s)) ≡ take (n + 1) (drop 1 s) =
     rw (← sum) (sym (take_next (drop 1 s) n (omega (arith, length-drop 1 s, k.sized)))) in
-    let first : 0x_aa ∷ [] ≡ take 1 (drop 0 s) = sym (rw (cells-take s 0 1 (omega (arith, k.sized)), whole.sync)) in
+    let first : 0xAA ∷ [] ≡ take 1 (drop 0 s) = sym (rw (cells-take s 0 1 (omega (arith, k.sized)), whole.sync)) in
     let all : 1 + (n + 1) ≡ header_length K = omega (arith, k.sized) in
     ap₂ ◌++◌ first (ap with_checksum body ∙ behind) ∙ join s 0 1 (n + 1) ∙ ap (λ (i : ℕ). take i s) all
 
@@ -280,7 +280,7 @@ packet-rewritten s whole held =
     ap₂ ◌++◌ (header-again Packet s whole held) (ap (λ (f : ℕ). framed 4 f [] (payload_in Packet s)) (counted Packet s held))
 
 datagram-rewritten : (s : List ℕ) → WholeAs Datagram s → length_as Datagram s ≤ length s
-    → stream_as Datagram [] (record_as Datagram s) ≡ 0x_aa ∷ with_checksum (take 13 (drop 1 s) ++ (get_or s 14 0 % 64 ∷ []))
+    → stream_as Datagram [] (record_as Datagram s) ≡ 0xAA ∷ with_checksum (take 13 (drop 1 s) ++ (get_or s 14 0 % 64 ∷ []))
 unfolding stream_as header_length frame_width frames_of framed kind_bytes command_in payload_in frame_count
 datagram-rewritten s whole held =
     let word = word-again (get_or s 6 0) (get_or s 7 0) (header-low Datagram s whole 6 (omega arith) (omega arith)) in
@@ -306,7 +306,7 @@ module _ (s : List ℕ) (w : (validation_of s).verdict ≡ 0) where
   pub packet-again : kind s ≡ Packet → stream_of (record_of s) ≡ take 10 s ++ framed 4 (get_or s 8 0) [] (unframed 4 (get_or s 8 0) (drop 10 s))
   packet-again e = let (whole, held) = parts-as s w Packet e in stream-as Packet e ∙ packet-rewritten s whole held
 
-  pub datagram-again : kind s ≡ Datagram → stream_of (record_of s) ≡ 0x_aa ∷ with_checksum (take 13 (drop 1 s) ++ (get_or s 14 0 % 64 ∷ []))
+  pub datagram-again : kind s ≡ Datagram → stream_of (record_of s) ≡ 0xAA ∷ with_checksum (take 13 (drop 1 s) ++ (get_or s 14 0 % 64 ∷ []))
   datagram-again e = let (whole, held) = parts-as s w Datagram e in stream-as Datagram e ∙ datagram-rewritten s whole held
 
   -- the septet of a telegram's frame has no unused bit

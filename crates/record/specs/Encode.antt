@@ -17,11 +17,11 @@ is_unknown Datagram = false
 is_unknown Telegram = false
 is_unknown Unknown = true
 
--- 3: a packet's or datagram's command has bit 7 or 15 set, or a telegram's is above 0x7_f
+-- 3: a packet's or datagram's command has bit 7 or 15 set, or a telegram's is above 0x7F
 abbrev pub high_command : Kind → ℕ → Bool
 high_command Packet command = high_word command
 high_command Datagram command = high_word command
-high_command Telegram command = ltb 0x7_f command
+high_command Telegram command = ltb 0x7F command
 high_command Unknown command = false
 
 -- 4: the payload's length n doesn't fit: F is above 127, or n is not the length of F frames

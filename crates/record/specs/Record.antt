@@ -86,10 +86,10 @@ kind_bytes Datagram unused r = word_bytes r.header.command ++ with_septet (get_o
 kind_bytes Telegram unused r = r.header.command ∷ []
 kind_bytes Unknown unused r = []
 
--- 0x_aa, the header with its checksum, and the frames: of a record that is taken as one of a kind
+-- 0xAA, the header with its checksum, and the frames: of a record that is taken as one of a kind
 unfoldable pub stream_as : Kind → List ℕ → Record → List ℕ
 stream_as K unused r =
-    0x_aa ∷ (with_checksum (address_bytes r.header ++ kind_bytes K unused r) ++ framed (frame_width K) (frames_in K r) unused r.payload)
+    0xAA ∷ (with_checksum (address_bytes r.header ++ kind_bytes K unused r) ++ framed (frame_width K) (frames_in K r) unused r.payload)
 
 -- the stream of a record, with the unused septet bits of each of its blocks; checksums cover the bytes as they stand
 unfoldable pub stream_with : List ℕ → Record → List ℕ

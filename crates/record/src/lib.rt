@@ -1,4 +1,6 @@
 // A record: what one stream says, and how it is written.
+#![tactic(auto)]
+
 ghost use Rattle.std.specs.Prelude.{◌≡◌, ◌+◌, ◌*◌, length};
 ghost use Rattle.basics.specs.Words.{word_at};
 ghost use Rattle.record.specs.Encode.{encoding_of, output_after};

@@ -27,7 +27,7 @@ fn word(word: u16, out: &mut [u8])
 // The sync byte, and what stands alike in every kind.
 fn address(header: Header, out: &mut [u8])
     requires { 6 ≤ length out.old }
-    ensures { out.new ≡ over (0x_aa ∷ address_bytes header) out.old }
+    ensures { out.new ≡ over (0xAA ∷ address_bytes header) out.old }
 {
     let destination = header.destination;
     let source = header.source;

@@ -93,11 +93,11 @@ module _ (s : List ℕ) (w : Whole s) where
       → take 1 s ++ (new ++ drop (length s - 1) (drop 1 s)) ≡ over (stream_of (record_of s)) s
   datagram-cleared e new k =
       let long = datagram-held e in
-      let first : s ≡ over (0x_aa ∷ []) s = sym (ap (λ (n : ℕ). n ∷ drop 1 s) (sym (whole-sync s w)) ∙ sym (drop-cons s 0 0 (omega arith))) in
+      let first : s ≡ over (0xAA ∷ []) s = sym (ap (λ (n : ℕ). n ∷ drop 1 s) (sym (whole-sync s w)) ∙ sym (drop-cons s 0 0 (omega arith))) in
       let block : cleared 13 64 (take (length s - 1) (drop 1 s)) ≡ with_checksum (take 13 (drop 1 s) ++ (get_or s 14 0 % 64 ∷ [])) =
       ap (cleared 13 64) (part s 1) ∙ ap (λ (n : ℕ). with_checksum (take 13 (drop 1 s) ++ (n % 64 ∷ []))) (get_or-drop 1 s 13 0) in
-      lent (0x_aa ∷ []) (cleared 13 64 (take (length s - 1) (drop 1 s))) s s new 1 refl first k
-      ∙ ap (λ (l : List ℕ). over (0x_aa ∷ l) s) block
+      lent (0xAA ∷ []) (cleared 13 64 (take (length s - 1) (drop 1 s))) s s new 1 refl first k
+      ∙ ap (λ (l : List ℕ). over (0xAA ∷ l) s) block
       ∙ ap (λ (l : List ℕ). over l s) (sym (datagram-again s w e))
 
   -- without unused bits nothing is to be cleared

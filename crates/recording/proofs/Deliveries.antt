@@ -27,7 +27,7 @@ Whole s = (validation_of s).verdict ≡ 0
 
 -- ── a whole stream begins with the sync byte, and no other of its bytes is one
 
-pub whole-sync : (s : List ℕ) → Whole s → get_or s 0 0 ≡ 0x_aa
+pub whole-sync : (s : List ℕ) → Whole s → get_or s 0 0 ≡ 0xAA
 whole-sync s w = (whole_parts s w).whole.sync
 
 whole-low : (s : List ℕ) → Whole s → (k : ℕ) → 0 < k → k < (validation_of s).offset → get_or s k 0 < 128
@@ -45,7 +45,7 @@ whole_long s w =
     let parts = whole_parts s w in
     (omega (arith, parts.sized, eight (kind s) s parts.whole), omega (arith, parts.sized, parts.held))
 
--- document 01: no two streams overlap, because no byte after a stream's first is 0x_aa
+-- document 01: no two streams overlap, because no byte after a stream's first is 0xAA
 pub no-overlap : (s : List ℕ) (p q : ℕ) → Whole (drop p s) → Whole (drop q s) → p < q → p + (validation_of (drop p s)).offset ≤ q
 no-overlap s p q wp wq before =
     dite (dec_lt q (p + (validation_of (drop p s)).offset))

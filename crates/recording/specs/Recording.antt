@@ -4,7 +4,7 @@ use Rattle.basics.specs.Choice.{choose}
 use Rattle.stream.specs.Validation.{validation_of, is_whole}
 use Rattle.record.specs.Record.{Record, record_of}
 
--- one delivered record: the position of its stream's 0x_aa (request No. 5), the stream's length, and what it says
+-- one delivered record: the position of its stream's 0xAA (request No. 5), the stream's length, and what it says
 pub record Delivery : Type 0 where
   pub position : ℕ
   pub length : ℕ

@@ -1,4 +1,6 @@
 // A recording: bytes off the wire, in which streams stand between noise.
+#![tactic(auto)]
+
 ghost use Rattle.std.specs.Prelude.{◌≡◌, length, drop};
 ghost use Rattle.basics.specs.Output.{output_for};
 ghost use Rattle.record.specs.Record.{record_of};
@@ -16,7 +18,7 @@ use basics::Written;
 use record::Header;
 use search::{Search, Span};
 
-// The next record: the position of its 0x_aa in the input, how long its stream is, its header, and how long its payload is.
+// The next record: the position of its 0xAA in the input, how long its stream is, its header, and how long its payload is.
 // Where there is none, or the call is refused, every field but the number is zero.
 #[repr(C)]
 #[derive(Drop)]

@@ -56,7 +56,7 @@ true_figures =
     ∷ (remove_by (figures 24 8 32) no 0x2100 (holding 24 8), done (figures 23 8 0) (set (holding 24 8) 0 (slave no 0 0 0)))
     ∷ (remove_by (figures 2 2 4) yes 0x2101 (holding 2 2), done (figures 2 1 3) (set (holding 2 2) 3 (slave no 0 0 0)))
     ∷ (remove_by (figures 3 0 1) no 0x2103 holed, done (figures 2 0 1) (set holed 3 (slave no 0 0 0)))
-    ∷ (remove_by (figures 30 0 26) no 0x211_c (set (holding 31 0) 26 (slave no 0 0 0)), done (figures 29 0 26) (set (set (holding 31 0) 26 (slave no 0 0 0)) 28 (slave no 0 0 0)))
+    ∷ (remove_by (figures 30 0 26) no 0x211C (set (holding 31 0) 26 (slave no 0 0 0)), done (figures 29 0 26) (set (set (holding 31 0) 26 (slave no 0 0 0)) 28 (slave no 0 0 0)))
     ∷ (remove_by (figures 4 0 0) no 0x2010 twice, done (figures 3 0 0) (set twice 3 (slave no 0 0 0)))
     ∷ []
 
@@ -64,9 +64,9 @@ true_figures =
 abbrev refusals : List Row
 refusals =
     (enter_by (figures 7 9 5) (slave no 0x2010 1 2) short, kept 24 (figures 7 9 5) short)
-    ∷ (enter_by (figures 24 255 255) (slave no 0x200_f 0x1000000 2) long, kept 24 (figures 24 255 255) long)
+    ∷ (enter_by (figures 24 255 255) (slave no 0x200F 0x1000000 2) long, kept 24 (figures 24 255 255) long)
     ∷ (enter_by (figures 0 0 0) (slave yes 0x2010 1 2) [], kept 24 (figures 0 0 0) [])
-    ∷ (enter_by (figures 24 9 32) (slave no 0x200_f 0x1000000 2) full, kept 14 (figures 24 9 32) full)
+    ∷ (enter_by (figures 24 9 32) (slave no 0x200F 0x1000000 2) full, kept 14 (figures 24 9 32) full)
     ∷ (enter_by (figures 24 9 32) (slave no 0x2010 0x1000000 2) full, kept 18 (figures 24 9 32) full)
     ∷ (enter_by (figures 24 9 32) (slave no 0x2010 1 2) full, kept 15 (figures 24 9 32) full)
     ∷ (enter_by (figures 24 8 32) (slave yes 0x2107 3 4) (holding 24 8), kept 15 (figures 24 8 32) (holding 24 8))

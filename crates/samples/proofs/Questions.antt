@@ -85,7 +85,7 @@ pub data Question : Type 0 where
 
 -- an output before a call
 abbrev pub untouched : ℕ → List ℕ
-untouched room = replicate room 0x_ee
+untouched room = replicate room 0xEE
 
 abbrev septets_told : Septets → List ℕ
 septets_told b = b.number ∷ b.length ∷ b.septet ∷ b.bytes

@@ -22,9 +22,9 @@ response version command payload = recorded version 0x7731 0x2010 command payloa
 abbrev pub slave_ids : List Row
 slave_ids =
     (read_slave_id (record_of t2), 0 ∷ 888888 ∷ 2344630 ∷ 17 ∷ 116406 ∷ [])
-    ∷ (read_slave_id (response 0x31 0x23 (bytes 7 0x_ffffffff_ffff00)), 0 ∷ 0x_ffffff ∷ 0x_ffffff ∷ 127 ∷ 131071 ∷ [])
+    ∷ (read_slave_id (response 0x31 0x23 (bytes 7 0xFFFFFFFF_FFFF00)), 0 ∷ 0xFFFFFF ∷ 0xFFFFFF ∷ 127 ∷ 131071 ∷ [])
     ∷ (read_slave_id (response 0x30 0x23 (bytes 7 0x00010000_000200)), 0 ∷ 256 ∷ 131072 ∷ 1 ∷ 0 ∷ [])
-    ∷ (read_slave_id (response 0x30 0x23 (bytes 7 0x010000_ff_ff0100)), 0 ∷ 1 ∷ 131071 ∷ 0 ∷ 131071 ∷ [])
+    ∷ (read_slave_id (response 0x30 0x23 (bytes 7 0x010000FF_FF0100)), 0 ∷ 1 ∷ 131071 ∷ 0 ∷ 131071 ∷ [])
     ∷ (read_slave_id (response 0x10 0x23 (replicate 7 0)), no_slave_id)
     ∷ (read_slave_id (response 0x20 0x23 (replicate 7 0)), no_slave_id)
     ∷ (read_slave_id (response 0x32 0x23 (replicate 7 0)), no_slave_id)
@@ -37,7 +37,7 @@ slave_ids =
     ∷ (write_slave_id 0x7731 0x2010 888888 2344630 18, 0 ∷ 17 ∷ (t2 ++ untouched 1))
     ∷ (write_slave_id 0x7731 0x2010 888888 2344630 17, 0 ∷ 17 ∷ t2)
     ∷ (write_slave_id 0x7731 0x2010 888888 2344630 16, refused 5 16)
-    ∷ (write_slave_id 0x7_f7_f 0x7_f7_f 0x_ffffff 0x_ffffff 17, 0 ∷ 17 ∷ bytes 17 0x_aa7_f7_f7_f_7_f302330_7_f7_f7_f7_f_7_f7_f003_f_46)
+    ∷ (write_slave_id 0x7F7F 0x7F7F 0xFFFFFF 0xFFFFFF 17, 0 ∷ 17 ∷ bytes 17 0xAA7F7F7F_7F302330_7F7F7F7F_7F7F003F_46)
     ∷ (write_slave_id 0x7731 0x2010 0x1000000 2344630 18, refused 18 18)
     ∷ (write_slave_id 0x7731 0x2010 888888 0x1000000 18, refused 18 18)
     ∷ (write_slave_id 0x80 0x2010 0x1000000 2344630 18, refused 18 18)
@@ -62,25 +62,25 @@ abbrev pub long : List Slave
 long = replicate 33 (slave no 0x2010 1 2)
 
 abbrev last_taken : List Slave
-last_taken = set twice 31 (slave no 0x2_f70 3 4)
+last_taken = set twice 31 (slave no 0x2F70 3 4)
 
 abbrev pub slave_tables : List Row
 slave_tables =
-    (enter_slave (slave no 0x2010 0x_ffffff 0x_ffffff) (slaves []), 0 ∷ table_told (slaves ((0, slave no 0x2010 0x_ffffff 0x_ffffff) ∷ [])))
-    ∷ (enter_slave (slave no 0x2_f7_f 1 2) (slaves ((0, slave no 0x2010 3 4) ∷ (2, slave no 0x2011 5 6) ∷ [])), 0 ∷ table_told (slaves ((0, slave no 0x2010 3 4) ∷ (1, slave no 0x2_f7_f 1 2) ∷ (2, slave no 0x2011 5 6) ∷ [])))
+    (enter_slave (slave no 0x2010 0xFFFFFF 0xFFFFFF) (slaves []), 0 ∷ table_told (slaves ((0, slave no 0x2010 0xFFFFFF 0xFFFFFF) ∷ [])))
+    ∷ (enter_slave (slave no 0x2F7F 1 2) (slaves ((0, slave no 0x2010 3 4) ∷ (2, slave no 0x2011 5 6) ∷ [])), 0 ∷ table_told (slaves ((0, slave no 0x2010 3 4) ∷ (1, slave no 0x2F7F 1 2) ∷ (2, slave no 0x2011 5 6) ∷ [])))
     ∷ (enter_slave (slave yes 0x2100 1 2) (set full 31 (slave no 0 7 8)), 0 ∷ table_told (set full 31 (slave yes 0x2100 1 2)))
     ∷ (enter_slave (slave no 0x2800 1 2) (slaves []), 0 ∷ table_told (slaves ((0, slave no 0x2800 1 2) ∷ [])))
-    ∷ (enter_slave (slave no 0x200_f 0x1000000 2) short, unchanged 24 short)
-    ∷ (enter_slave (slave no 0x200_f 1 2) long, unchanged 24 long)
+    ∷ (enter_slave (slave no 0x200F 0x1000000 2) short, unchanged 24 short)
+    ∷ (enter_slave (slave no 0x200F 1 2) long, unchanged 24 long)
     ∷ (enter_slave (slave no 0x2010 1 2) long, unchanged 24 long)
     ∷ (enter_slave (slave no 0x2011 0x1000000 2) long, unchanged 24 long)
     ∷ (enter_slave (slave no 0x2011 1 2) long, unchanged 24 long)
     ∷ (enter_slave (slave no 0x2010 1 2) [], unchanged 24 [])
-    ∷ (enter_slave (slave no 0x200_f 0x1000000 2) full, unchanged 14 full)
+    ∷ (enter_slave (slave no 0x200F 0x1000000 2) full, unchanged 14 full)
     ∷ (enter_slave (slave no 0x1010 1 2) (slaves []), unchanged 14 (slaves []))
     ∷ (enter_slave (slave no 0x3010 1 2) (slaves []), unchanged 14 (slaves []))
     ∷ (enter_slave (slave no 0x6010 1 2) (slaves []), unchanged 14 (slaves []))
-    ∷ (enter_slave (slave no 0x_a010 1 2) (slaves []), unchanged 14 (slaves []))
+    ∷ (enter_slave (slave no 0xA010 1 2) (slaves []), unchanged 14 (slaves []))
     ∷ (enter_slave (slave no 0x2090 1 2) (slaves []), unchanged 14 (slaves []))
     ∷ (enter_slave (slave no 0 1 2) (slaves []), unchanged 14 (slaves []))
     ∷ (enter_slave (slave no 0x0001 1 2) twice, unchanged 14 twice)
@@ -89,7 +89,7 @@ slave_tables =
     ∷ (enter_slave (slave no 0x2011 0x1000000 2) full, unchanged 18 full)
     ∷ (enter_slave (slave no 0x2010 1 2) full, unchanged 15 full)
     ∷ (enter_slave (slave no 0x2011 1 2) twice, unchanged 15 twice)
-    ∷ (enter_slave (slave no 0x2_f70 1 2) last_taken, unchanged 15 last_taken)
+    ∷ (enter_slave (slave no 0x2F70 1 2) last_taken, unchanged 15 last_taken)
     ∷ (enter_slave (slave no 0x2010 3 4) (slaves ((0, slave no 0x0001 0 0) ∷ (1, slave no 0x1000 1 2) ∷ [])), 0 ∷ table_told (slaves ((0, slave no 0x0001 0 0) ∷ (1, slave no 0x1000 1 2) ∷ (2, slave no 0x2010 3 4) ∷ [])))
     ∷ (enter_slave (slave no 0x2011 1 2) full, unchanged 16 full)
     ∷ (find_slave no 0x2010 twice, 0 ∷ 30 ∷ 31 ∷ [])
@@ -99,7 +99,7 @@ slave_tables =
     ∷ (find_slave no 0x2010 long, 24 ∷ 0 ∷ 0 ∷ [])
     ∷ (find_slave no 0x2012 long, 24 ∷ 0 ∷ 0 ∷ [])
     ∷ (find_slave no 0x2010 short, 24 ∷ 0 ∷ 0 ∷ [])
-    ∷ (change_slave no 0x2010 0x2_f70 twice, 0 ∷ table_told (set twice 3 (slave no 0x2_f70 30 31)))
+    ∷ (change_slave no 0x2010 0x2F70 twice, 0 ∷ table_told (set twice 3 (slave no 0x2F70 30 31)))
     ∷ (change_slave no 0x0001 0x2012 twice, 0 ∷ table_told (set twice 31 (slave no 0x2012 310 311)))
     ∷ (change_slave no 0x2010 0x2010 twice, unchanged 0 twice)
     ∷ (change_slave no 0x0001 0x0001 twice, unchanged 14 twice)
@@ -111,7 +111,7 @@ slave_tables =
     ∷ (change_slave no 0 0x2012 twice, unchanged 17 twice)
     ∷ (change_slave no 0x2010 0x2011 twice, unchanged 15 twice)
     ∷ (change_slave no 0x2011 0x2010 twice, unchanged 15 twice)
-    ∷ (change_slave no 0x2010 0x2_f70 last_taken, unchanged 15 last_taken)
+    ∷ (change_slave no 0x2010 0x2F70 last_taken, unchanged 15 last_taken)
     ∷ (change_slave no 0x2010 0x2080 long, unchanged 24 long)
     ∷ (change_slave no 0x2012 0x2013 long, unchanged 24 long)
     ∷ (change_slave no 0x2010 0x2011 (set long 4 (slave no 0x2011 3 4)), unchanged 24 (set long 4 (slave no 0x2011 3 4)))
@@ -141,7 +141,7 @@ two_owners =
     ∷ (enter_slave (slave no 0x2100 3 4) (holding 24 0), unchanged 15 (holding 24 0))
     ∷ (enter_slave (slave yes 0x2100 3 4) (holding 7 24), unchanged 15 (holding 7 24))
     ∷ (enter_slave (slave no 0x2200 3 4) (set (holding 23 0) 23 (slave no 0x0001 1 2)), unchanged 16 (set (holding 23 0) 23 (slave no 0x0001 1 2)))
-    ∷ (enter_slave (slave yes 0x200_f 1 2) (slaves []), unchanged 14 (slaves []))
+    ∷ (enter_slave (slave yes 0x200F 1 2) (slaves []), unchanged 14 (slaves []))
     ∷ (enter_slave (slave yes 0x2010 0x1000000 2) (slaves []), unchanged 18 (slaves []))
     ∷ (enter_slave (slave no 0x2100 3 4) (holding 0 32), unchanged 16 (holding 0 32))
     ∷ (enter_slave (slave yes 0x2010 3 4) (replicate 32 (slave yes 0 5 6)), 0 ∷ table_told (set (replicate 32 (slave yes 0 5 6)) 0 (slave yes 0x2010 3 4)))
@@ -176,7 +176,7 @@ interleaved =
     ∷ Find yes 0x2011
     ∷ Change no 0x2011 0x2012
     ∷ Remove no 0x2010
-    ∷ Enter (slave no 0x200_f 5 6)
+    ∷ Enter (slave no 0x200F 5 6)
     ∷ Enter (slave no 0x2010 0x1000000 6)
     ∷ Remove no 0x2010
     ∷ Find yes 0x2011
@@ -218,7 +218,7 @@ owned_no =
     ∷ (Find no 0x2010, false)
     ∷ (Change no 0x2011 0x2012, false)
     ∷ (Remove no 0x2010, false)
-    ∷ (Enter (slave no 0x200_f 5 6), false)
+    ∷ (Enter (slave no 0x200F 5 6), false)
     ∷ (Enter (slave no 0x2010 0x1000000 6), false)
     ∷ (Remove no 0x2010, false)
     ∷ []

@@ -33,7 +33,7 @@ pub fn validate(bytes: &[u8]) {
 }
 
 // An output before a call, of a byte that no stream has.
-const UNTOUCHED: [u8; 800] = [0x_ee; 800];
+const UNTOUCHED: [u8; 800] = [0xEE; 800];
 
 // Whether the bytes of an output behind the first are untouched.
 fn kept(out: &[u8], count: usize) {
@@ -121,7 +121,7 @@ pub fn receive(recording: &[u8], reset: usize) {
         held: 0,
         position: 0,
     };
-    let mut memory = [0x_eeu8; 772];
+    let mut memory = [0xEEu8; 772];
     let mut used = 0;
     while used < recording.len() {
         if used == reset {
@@ -142,9 +142,9 @@ pub fn receive(recording: &[u8], reset: usize) {
 pub fn receive_last(chunk: &[u8], left: usize, room: usize) {
     let receiver = receiver::Receiver {
         held: 0,
-        position: 0x_ffff_ffff_ffff_ffff - left as u64,
+        position: 0xFFFF_FFFF_FFFF_FFFF - left as u64,
     };
-    let mut memory = [0x_eeu8; 772];
+    let mut memory = [0xEEu8; 772];
     let mut out = UNTOUCHED;
     let answer = receiver::receive(
         receiver,

@@ -9,6 +9,8 @@
 //     2, 4        the lengths of the name and of the bytes
 //     6, 8        two numbers: a length, a start, an index, an output's room
 //     10, 12, 14  a header's destination, source and command
+#![tactic(auto)]
+
 ghost use Rattle.std.specs.Prelude.{◌<◌, length};
 
 mod answer;

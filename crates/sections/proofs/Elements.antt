@@ -50,11 +50,11 @@ module _ (h : Header) (p : List ℕ) (k : ℕ) where
   -- ── which refusal is given when
 
   -- a section that isn't found is refused as its lookup is; where it is found, 11 is given exactly if its type isn't in the table, and 13 exactly if
-  -- its type is 0x0_a and its number of frames odd, and its elements are counted exactly if their size divides its bytes
+  -- its type is 0x0A and its number of frames odd, and its elements are counted exactly if their size divides its bytes
   pub record ElementRefusal : Type 0 where
     pub kept : (section_found h p k).number ≢ 0 → (element_count h p k).number ≡ (section_found h p k).number
     pub eleven : ((element_count h p k).number ≡ 11) ↔ (((section_found h p k).number ≡ 0) × (element_size type ≡ 0))
-    pub thirteen : ((element_count h p k).number ≡ 13) ↔ (((section_found h p k).number ≡ 0) × (type ≡ 0x0_a) × (frames % 2 ≡ 1))
+    pub thirteen : ((element_count h p k).number ≡ 13) ↔ (((section_found h p k).number ≡ 0) × (type ≡ 0x0A) × (frames % 2 ≡ 1))
     pub none : ((element_count h p k).number ≡ 0) ↔ (((section_found h p k).number ≡ 0) × (0 < element_size type) × (4 * frames % element_size type ≡ 0))
 
   -- the lines behind those of the section

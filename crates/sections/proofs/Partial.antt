@@ -1,4 +1,4 @@
--- Which sections end within an element: none but those of type 0x0_a with an odd number of frames.
+-- Which sections end within an element: none but those of type 0x0A with an odd number of frames.
 use Prim.Native.Nat.{ℕ, ◌*◌, ◌%◌, ◌<◌}
 use native.Mathlib.Omega.{arith}
 use native.Mathlib.Decide.{ℕ_discrete}
@@ -20,18 +20,18 @@ module _ (type frames : ℕ) where
   line = choose-by (λ (size : ℕ). 0 < size → 4 * frames % size ≡ 0)
 
   -- in every other type of the table the size divides a section's bytes, whatever the number of frames
-  pub size-divides : type ≢ 0x0_a → 0 < element_size type → 4 * frames % element_size type ≡ 0
+  pub size-divides : type ≢ 0x0A → 0 < element_size type → 4 * frames % element_size type ≡ 0
   unfolding element_size
   size-divides other =
       line (eqb type 0x01) (λ e pos. omega arith) (λ e.
       line (eqb type 0x05) (λ e pos. omega arith) (λ e.
       line (eqb type 0x08) (λ e pos. omega arith) (λ e.
-      line (eqb type 0x0_a) (λ e. absurd (other (eqb-true type 0x0_a e))) (λ e.
-      line (eqb type 0x0_b) (λ e pos. omega arith) (λ e.
-      line (eqb type 0x0_c) (λ e pos. omega arith) (λ e.
-      line (eqb type 0x0_d) (λ e pos. omega arith) (λ e pos. absurd (omega arith))))))))
+      line (eqb type 0x0A) (λ e. absurd (other (eqb-true type 0x0A e))) (λ e.
+      line (eqb type 0x0B) (λ e pos. omega arith) (λ e.
+      line (eqb type 0x0C) (λ e pos. omega arith) (λ e.
+      line (eqb type 0x0D) (λ e pos. omega arith) (λ e pos. absurd (omega arith))))))))
 
-pub display-size : element_size 0x0_a ≡ 8
+pub display-size : element_size 0x0A ≡ 8
 unfolding element_size choose
 display-size = refl
 
@@ -46,14 +46,14 @@ odd-remainder frames =
     (λ even. rw (ne_eqb _ _ even, eq-eqb (4 * frames % 8) 0 (omega (arith, left_over frames))))
 
 module _ (section : List ℕ) where
-  pub partial-exactly : (partial_element section ≡ true) ↔ ((type_of section ≡ 0x0_a) × (frames_in section % 2 ≡ 1))
+  pub partial-exactly : (partial_element section ≡ true) ↔ ((type_of section ≡ 0x0A) × (frames_in section % 2 ≡ 1))
   partial-exactly =
-      let both = and-eq-true_iff (eqb (type_of section) 0x0_a) (eqb (frames_in section % 2) 1) in
+      let both = and-eq-true_iff (eqb (type_of section) 0x0A) (eqb (frames_in section % 2) 1) in
       (λ t. (eqb-true _ _ (both.0 t).0, eqb-true _ _ (both.0 t).1), λ x. both.1 (eq-eqb _ _ x.0, eq-eqb _ _ x.1))
 
   -- of a type in the table, it is one that the size of its elements doesn't divide
   pub partial-remainder : 0 < size_in section → partial_element section ≡ not (eqb (4 * frames_in section % size_in section) 0)
   partial-remainder typed =
-      dite (ℕ_discrete (type_of section) 0x0_a)
+      dite (ℕ_discrete (type_of section) 0x0A)
       (λ e. rw (e, display-size) (odd-remainder (frames_in section)))
-      (λ other. rw (ne_eqb _ 0x0_a other, eq-eqb _ 0 (size-divides (type_of section) (frames_in section) other typed)))
+      (λ other. rw (ne_eqb _ 0x0A other, eq-eqb _ 0 (size-divides (type_of section) (frames_in section) other typed)))

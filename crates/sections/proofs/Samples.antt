@@ -16,13 +16,13 @@ abbrev from : ℕ → ℕ → List ℕ
 from zero k = []
 from (suc n) k = k ∷ from n (suc k)
 
--- types 0x00 to 0x0_d, and no type above
+-- types 0x00 to 0x0D, and no type above
 sizes : map element_size (from 256 0) ≡ 0 ∷ 2 ∷ 0 ∷ 0 ∷ 0 ∷ 4 ∷ 0 ∷ 0 ∷ 1 ∷ 0 ∷ 8 ∷ 4 ∷ 4 ∷ 4 ∷ replicate 242 0
 unfolding element_size choose
 sizes = refl
 
 -- temperatures of low and high byte: 25, the greatest, -1 and the least
-temperatures : map temperature_of ((0x19 ∷ 0x00 ∷ []) ∷ (0x_ff ∷ 0x7_f ∷ []) ∷ (0x_ff ∷ 0x_ff ∷ []) ∷ (0x00 ∷ 0x80 ∷ []) ∷ []) ≡ pos 25 ∷ pos 32767 ∷ negsuc 0 ∷ negsuc 32767 ∷ []
+temperatures : map temperature_of ((0x19 ∷ 0x00 ∷ []) ∷ (0xFF ∷ 0x7F ∷ []) ∷ (0xFF ∷ 0xFF ∷ []) ∷ (0x00 ∷ 0x80 ∷ []) ∷ []) ≡ pos 25 ∷ pos 32767 ∷ negsuc 0 ∷ negsuc 32767 ∷ []
 unfolding signed choose
 temperatures = refl
 

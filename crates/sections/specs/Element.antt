@@ -11,10 +11,10 @@ element_size type =
     (eqb type 0x01, 2)
     ∷ (eqb type 0x05, 4)
     ∷ (eqb type 0x08, 1)
-    ∷ (eqb type 0x0_a, 8)
-    ∷ (eqb type 0x0_b, 4)
-    ∷ (eqb type 0x0_c, 4)
-    ∷ (eqb type 0x0_d, 4)
+    ∷ (eqb type 0x0A, 8)
+    ∷ (eqb type 0x0B, 4)
+    ∷ (eqb type 0x0C, 4)
+    ∷ (eqb type 0x0D, 4)
     ∷ []
     )
 
@@ -26,9 +26,9 @@ size_in section = element_size (type_of section)
 abbrev pub elements_in : List ℕ → ℕ
 elements_in section = 4 * frames_in section / size_in section
 
--- document 02, No. 6: "A section of type 0x0_a with an odd number of frames": the last four bytes are half an element
+-- document 02, No. 6: "A section of type 0x0A with an odd number of frames": the last four bytes are half an element
 abbrev pub partial_element : List ℕ → Bool
-partial_element section = eqb (type_of section) 0x0_a && eqb (frames_in section % 2) 1
+partial_element section = eqb (type_of section) 0x0A && eqb (frames_in section % 2) 1
 
 -- the bytes of a section before element i
 abbrev pub offset_in : List ℕ → ℕ → ℕ

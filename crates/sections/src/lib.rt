@@ -1,4 +1,6 @@
 // The sections and elements in the payload of a block packet.
+#![tactic(auto)]
+
 ghost use Rattle.std.specs.Prelude.{◌≡◌, ◌+◌, ◌*◌, ◌≤◌, length, take, drop};
 ghost use Rattle.sections.specs.Answer.{not_block, section_count, section_found, section_shown, element_count, element_found, element_shown};
 ghost use Rattle.sections.specs.Element.{element_size, temperature_of};
@@ -71,10 +73,10 @@ fn element_size(section_type: u8) -> usize
         0x01 => 2,
         0x05 => 4,
         0x08 => 1,
-        0x0_a => 8,
-        0x0_b => 4,
-        0x0_c => 4,
-        0x0_d => 4,
+        0x0A => 8,
+        0x0B => 4,
+        0x0C => 4,
+        0x0D => 4,
         _ => 0,
     }
 }

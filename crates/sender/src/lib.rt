@@ -1,5 +1,7 @@
 // The sender's energy keeping (document 02, No. 10; document 003, "Energy management"): a full sender hands out as many bytes as its
 // energy pays for, then waits until it is full again.
+#![tactic(auto)]
+
 ghost use Rattle.std.specs.Prelude.{◌≡◌, false, ◌*◌, ◌<◌, ◌≤◌, min, length};
 ghost use Rattle.sender.specs.Energy.{settings_refused, energy_left, energy_after_portion, energy_after_wait};
 ghost use Rattle.sender.specs.Queue.{unsent_count, portion_size, is_idle};

@@ -1,4 +1,6 @@
 // The septet: the top bits of up to seven bytes, carried apart from them.
+#![tactic(auto)]
+
 ghost use Rattle.std.specs.Prelude.{◌≡◌};
 ghost use Rattle.septet.specs.Answer.{extracted, injected};
 

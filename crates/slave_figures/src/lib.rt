@@ -1,5 +1,7 @@
 // What is kept with a table of slaves in place of counting (request No. 9): how many entries each owner holds, and the lowest free one. Any
 // figures may be handed in; from true ones come true ones.
+#![tactic(auto)]
+
 ghost use Rattle.std.specs.Prelude.{◌≡◌, ◌-◌, nat_lt};
 ghost use Rattle.basics.specs.Choice.{choose};
 ghost use Rattle.slave_figures.specs.Keeping.{held_by, figures_with, kept_by, same_figures, check_by};

@@ -1,4 +1,6 @@
 // The slave ID response (request No. 7): read from a record, and written as a stream.
+#![tactic(auto)]
+
 ghost use Rattle.std.specs.Prelude.{◌≡◌, ◌+◌, ◌*◌, length};
 ghost use Rattle.slave_id.specs.SlaveId.{is_telegram, is_response, slave_id_of, too_wide, payload_of, written_of, output_after};
 

@@ -1,5 +1,7 @@
 // What each operation on a table of slaves (requests No. 7 and No. 8) decides, from what crate slaves has seen of the table: its size, the
 // indices where an owner's addresses stand, which are the size for an address that stands nowhere, and how much of it is taken.
+#![tactic(auto)]
+
 ghost use Rattle.std.specs.Prelude.{◌≡◌};
 ghost use Rattle.basics.specs.Choice.{first};
 ghost use Rattle.slave_plans.specs.Answer.{not_slave, is_absent, is_full, is_taken, enter_lines, find_lines, found_by, change_lines, readdressed};

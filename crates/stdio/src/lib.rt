@@ -1,5 +1,7 @@
 // What a program needs that turns standard input into standard output.
 // A program has no exit status, so what went wrong is a line on standard error, which a script turns into one.
+#![tactic(auto)]
+
 ghost use Rattle.io.specs.Counts.{IsPrefixLen};
 
 use libc::{STDERR_FILENO, STDIN_FILENO, STDOUT_FILENO};

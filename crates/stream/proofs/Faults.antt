@@ -114,16 +114,16 @@ fault-low s k p h = simp (ne_eqb k 0 (λ e. omega arith), lt-leb _ _ h)
 pub low_held : (s : List ℕ) (k : ℕ) → 0 < k → fault_at s k ≡ 0 → get_or s k 0 < 0x80
 low_held s k pos e = dite (dec_lt (get_or s k 0) 0x80) (λ low. low) (λ high. absurd (omega (arith, fault-high s k pos (omega arith))))
 
-pub sync-right : (s : List ℕ) → get_or s 0 0 ≡ 0x_aa → fault_at s 0 ≡ 0
+pub sync-right : (s : List ℕ) → get_or s 0 0 ≡ 0xAA → fault_at s 0 ≡ 0
 unfolding fault_at choose
 sync-right s e = simp (eq-eqb _ _ e)
 
-pub sync-wrong : (s : List ℕ) → (get_or s 0 0 ≡ 0x_aa → ⊥) → fault_at s 0 ≡ 1
+pub sync-wrong : (s : List ℕ) → (get_or s 0 0 ≡ 0xAA → ⊥) → fault_at s 0 ≡ 1
 unfolding fault_at choose
 sync-wrong s e = simp (ne_eqb _ _ e)
 
-pub sync-held : (s : List ℕ) → fault_at s 0 ≡ 0 → get_or s 0 0 ≡ 0x_aa
-sync-held s e = dite (ℕ_discrete (get_or s 0 0) 0x_aa) (λ q. q) (λ bad. absurd (omega (arith, sync-wrong s bad)))
+pub sync-held : (s : List ℕ) → fault_at s 0 ≡ 0 → get_or s 0 0 ≡ 0xAA
+sync-held s e = dite (ℕ_discrete (get_or s 0 0) 0xAA) (λ q. q) (λ bad. absurd (omega (arith, sync-wrong s bad)))
 
 -- ── the numbers that a fault can have
 

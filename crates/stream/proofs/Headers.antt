@@ -200,7 +200,7 @@ version-unknown s address e =
 
 -- ── the bytes before the version
 
-module _ (s : List ℕ) (sync : get_or s 0 0 ≡ 0x_aa) (stop : ℕ) (first : FirstHigh s 1 6 stop) where
+module _ (s : List ℕ) (sync : get_or s 0 0 ≡ 0xAA) (stop : ℕ) (first : FirstHigh s 1 6 stop) where
   address-clean-to : (k : ℕ) → k ≤ stop → k ≤ 5 → Clean (fault_at s) k
   address-clean-to k below near i h =
       dite (ℕ_discrete i 0)
@@ -219,5 +219,5 @@ module _ (s : List ℕ) (sync : get_or s 0 0 ≡ 0x_aa) (stop : ℕ) (first : Fi
 pub nothing : (s : List ℕ) → length s ≡ 0 → Reached (fault_at s) (stream_length s) (length s) 7 0
 nothing s e = ended refl (sym e) (λ i h. absurd (omega arith)) (omega (arith, at-least-six s))
 
-pub no-sync : (s : List ℕ) → (get_or s 0 0 ≡ 0x_aa → ⊥) → 0 < length s → Reached (fault_at s) (stream_length s) (length s) 1 0
+pub no-sync : (s : List ℕ) → (get_or s 0 0 ≡ 0xAA → ⊥) → 0 < length s → Reached (fault_at s) (stream_length s) (length s) 1 0
 no-sync s bad there = found (sync-wrong s bad) (omega arith) (λ i h. absurd (omega arith)) (omega (arith, at-least-six s)) there

@@ -20,7 +20,7 @@ pub low-before : (s : List ℕ) (k : ℕ) → 0 < k → k < (validation_of s).of
 low-before s k pos h = low_held s k pos (clean-before (complete s) k h)
 
 -- where the sync byte comes first, the offset lies behind it
-pub offset-behind : (s : List ℕ) → 0 < length s → get_or s 0 0 ≡ 0x_aa → 0 < (validation_of s).offset
+pub offset-behind : (s : List ℕ) → 0 < length s → get_or s 0 0 ≡ 0xAA → 0 < (validation_of s).offset
 offset-behind s there sync = by-case _ _ (complete s)
   where
     by-case : (v k : ℕ) → Reached (fault_at s) (stream_length s) (length s) v k → 0 < k

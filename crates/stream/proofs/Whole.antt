@@ -67,7 +67,7 @@ frame-clean width s base right =
 
 -- the parts of a stream that is read as one of a kind
 pub record WholeAs (K : Kind) (s : List ℕ) : Type 0 where
-  pub sync : get_or s 0 0 ≡ 0x_aa
+  pub sync : get_or s 0 0 ≡ 0xAA
   pub low : (k : ℕ) → 0 < k → k < length_as K s → get_or s k 0 < 0x80
   pub sum : HeaderSum K s
   pub frames : (f : ℕ) → f < frame_count K s → FrameSum (frame_width K) s (frame_base K f)

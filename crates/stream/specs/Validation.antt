@@ -62,7 +62,7 @@ breach (frame_sum width) s k = choose (eqb (get_or s k 0) (sum_at (frame_sum wid
 -- the fault at offset k, or 0; at one offset the upper line of the table wins
 unfoldable pub fault_at : List ℕ → ℕ → ℕ
 fault_at s k =
-    choose (eqb k 0) (choose (eqb (get_or s 0 0) 0x_aa) 0 1)
+    choose (eqb k 0) (choose (eqb (get_or s 0 0) 0xAA) 0 1)
     (choose (leb 0x80 (get_or s k 0)) 2 (breach (rule_at (kind s) k) s k))
 
 -- verdict v at offset k; request No. 3: "tells how many of a V0 stream's blocks had them, else 0"

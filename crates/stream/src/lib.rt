@@ -1,4 +1,6 @@
 // One stream on the wire, validated from its first byte (document 01: judging).
+#![tactic(auto)]
+
 ghost use Rattle.std.specs.Prelude.{◌≡◌};
 ghost use Rattle.stream.specs.Layout.{kind_of, telegram_frames, payload_length_of};
 ghost use Rattle.stream.specs.Sync.{next_sync};
@@ -93,6 +95,7 @@ fn whole_stream(length: usize, unused_septets: u8) -> Stop
 }
 
 // A stream's kind, by its version byte.
+#[tactic(auto, unfolding(crate::specs::Layout::kind_of, basics::specs::Choice::choose))]
 pub fn kind_of(version: u8) -> Kind
     ensures { result ≡ kind_of version }
 {
@@ -111,7 +114,7 @@ pub fn next_sync(input: &[u8], start: usize) -> usize
 {
     let mut place = start;
     while place < input.len() {
-        if input[place] == 0x_aa {
+        if input[place] == 0xAA {
             return place;
         }
         place += 1;
@@ -127,6 +130,7 @@ pub fn telegram_frames(command: u16) -> usize
 }
 
 // The length of the payload of so many frames.
+#[tactic(auto, unfolding(crate::specs::Layout::payload_length_of))]
 pub fn payload_length(kind: Kind, frames: u8) -> usize
     ensures { result ≡ payload_length_of kind frames }
 {
@@ -145,7 +149,7 @@ pub fn first_fault(input: &[u8]) -> Stop
     if input.len() == 0 {
         return at(Verdict::Ended, 0);
     }
-    if input[0] != 0x_aa {
+    if input[0] != 0xAA {
         return at(Verdict::NoSync, 0);
     }
     let stop = high_bytes::first_high(input, 1, 6);

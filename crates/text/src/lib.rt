@@ -1,4 +1,6 @@
 // Bytes and words as text, in upper-case hex.
+#![tactic(auto)]
+
 ghost use Rattle.std.specs.Prelude.{◌≡◌, ◌<◌};
 ghost use Rattle.text.specs.Hex as hex;
 

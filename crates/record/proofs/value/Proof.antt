@@ -26,14 +26,14 @@ word_fits : (c : tie.After-last-four) → Fits w32 c.last-four.result
 word_fits c = search rules
 
 sub-result-2 : tie.Need-overflow-sub-result-2
-sub-result-2 c = high_fits w32 c.before.last-four.result (0x_ffffffff - c.before.last-four.result) (omega (arith, word_fits c.before)) (omega arith)
+sub-result-2 c = high_fits w32 c.before.last-four.result (0xFFFFFFFF - c.before.last-four.result) (omega (arith, word_fits c.before)) (omega arith)
 
 returns : tie.Need-returns
 returns c = low_half w32 c.before.last-four.result (omega arith) ∙ ap (signed 32) c.before.last-four.ensures
 
 returns-2 : tie.Need-returns-2
 returns-2 c =
-    high_half w32 c.before.last-four.result (0x_ffffffff - c.before.last-four.result) (omega (arith, word_fits c.before)) (omega arith)
+    high_half w32 c.before.last-four.result (0xFFFFFFFF - c.before.last-four.result) (omega (arith, word_fits c.before)) (omega arith)
     ∙ ap (signed 32) c.before.last-four.ensures
 
 pub value_spec : {M : Type 1} → statement M

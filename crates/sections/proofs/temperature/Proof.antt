@@ -30,7 +30,7 @@ cast-result-2 c = search rules
 sub-result-2 : tie.Need-overflow-sub-result-2
 sub-result-2 c =
     let n = c.before.word_of.result in
-    high_fits w16 n (0x_ffff - n) (omega arith) (omega arith)
+    high_fits w16 n (0xFFFF - n) (omega arith) (omega arith)
 
 returns : tie.Need-returns
 returns c =
@@ -40,7 +40,7 @@ returns c =
 returns-2 : tie.Need-returns-2
 returns-2 c =
     let word = c.before.word_of in
-    high_half w16 word.result (0x_ffff - word.result) (omega arith) (omega arith) ∙ ap (signed 16) word.ensures
+    high_half w16 word.result (0xFFFF - word.result) (omega arith) (omega arith) ∙ ap (signed 16) word.ensures
 
 pub temperature-spec : {M : Type 1} → statement M
 temperature-spec =

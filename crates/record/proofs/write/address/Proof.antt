@@ -58,9 +58,9 @@ returns c =
     let args = sync.before.before.before.args in
     let h = args.header in
     let out = args.out.now in
-    lent (0x_aa ∷ (word_bytes h.destination ++ word_bytes h.source)) (h.version ∷ []) out _ _ 5 refl
-    (lent (0x_aa ∷ word_bytes h.destination) (word_bytes h.source) out _ _ 3 refl
-    (lent (0x_aa ∷ []) (word_bytes h.destination) out _ _ 1 refl sync.byte.ensures destination.word.ensures)
+    lent (0xAA ∷ (word_bytes h.destination ++ word_bytes h.source)) (h.version ∷ []) out _ _ 5 refl
+    (lent (0xAA ∷ word_bytes h.destination) (word_bytes h.source) out _ _ 3 refl
+    (lent (0xAA ∷ []) (word_bytes h.destination) out _ _ 1 refl sync.byte.ensures destination.word.ensures)
     source.word2.ensures)
     version.byte2.ensures
 

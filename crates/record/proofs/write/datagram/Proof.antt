@@ -85,12 +85,12 @@ returns c =
     let h = args.header in
     let payload = args.payload.now in
     let out = args.out.now in
-    summed-behind 0x_aa (address_bytes h ++ (word_bytes h.command ++ with_septet 0 payload)) out _ _ 14 (omega (arith, length-with_septet 0 payload, six start))
-    (lent (0x_aa ∷ (address_bytes h ++ word_bytes h.command)) (with_septet 0 payload) out _ _ 8 refl
-    (lent (0x_aa ∷ address_bytes h) (word_bytes h.command) out _ _ 6 refl address.address.ensures command.word.ensures)
+    summed-behind 0xAA (address_bytes h ++ (word_bytes h.command ++ with_septet 0 payload)) out _ _ 14 (omega (arith, length-with_septet 0 payload, six start))
+    (lent (0xAA ∷ (address_bytes h ++ word_bytes h.command)) (with_septet 0 payload) out _ _ 8 refl
+    (lent (0xAA ∷ address_bytes h) (word_bytes h.command) out _ _ 6 refl address.address.ensures command.word.ensures)
     block.block.ensures)
     sum.sum.ensures
-    ∙ ap (λ (l : List ℕ). over (0x_aa ∷ l) out) (sym (append-nil (with_checksum (address_bytes h ++ (word_bytes h.command ++ with_septet 0 payload)))))
+    ∙ ap (λ (l : List ℕ). over (0xAA ∷ l) out) (sym (append-nil (with_checksum (address_bytes h ++ (word_bytes h.command ++ with_septet 0 payload)))))
 
 pub datagram-spec : {M : Type 1} → statement M
 datagram-spec =

@@ -102,10 +102,10 @@ returns c =
     let out = args.out.now in
     let count = length payload / 4 in
     let body = address_bytes h ++ (word_bytes h.command ++ (count ∷ [])) in
-    lent (0x_aa ∷ with_checksum body) (framed 4 count [] payload) out _ _ 10 refl
-    (summed-behind 0x_aa body out _ _ 8 refl
-    (lent (0x_aa ∷ (address_bytes h ++ word_bytes h.command)) (count ∷ []) out _ _ 8 refl
-    (lent (0x_aa ∷ address_bytes h) (word_bytes h.command) out _ _ 6 refl address.address.ensures command.word.ensures)
+    lent (0xAA ∷ with_checksum body) (framed 4 count [] payload) out _ _ 10 refl
+    (summed-behind 0xAA body out _ _ 8 refl
+    (lent (0xAA ∷ (address_bytes h ++ word_bytes h.command)) (count ∷ []) out _ _ 8 refl
+    (lent (0xAA ∷ address_bytes h) (word_bytes h.command) out _ _ 6 refl address.address.ensures command.word.ensures)
     number.byte.ensures)
     sum.sum.ensures)
     frames.frames.ensures

@@ -90,9 +90,9 @@ returns c =
     let payload = args.payload.now in
     let out = args.out.now in
     let body = address_bytes h ++ (h.command ∷ []) in
-    lent (0x_aa ∷ with_checksum body) (framed 7 (telegram_frames h.command) [] payload) out _ _ 8 refl
-    (summed-behind 0x_aa body out _ _ 6 refl
-    (lent (0x_aa ∷ address_bytes h) (h.command ∷ []) out _ _ 6 refl address.address.ensures command.byte.ensures)
+    lent (0xAA ∷ with_checksum body) (framed 7 (telegram_frames h.command) [] payload) out _ _ 8 refl
+    (summed-behind 0xAA body out _ _ 6 refl
+    (lent (0xAA ∷ address_bytes h) (h.command ∷ []) out _ _ 6 refl address.address.ensures command.byte.ensures)
     sum.sum.ensures)
     (frames.frames.ensures ∙ rw count.telegram-frames.ensures)
 

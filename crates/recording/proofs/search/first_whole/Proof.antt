@@ -21,9 +21,9 @@ use Rattle.recording.proofs.search.first_whole.Statement.{statement}
 use Rattle.recording.proofs.search.first_whole.Tie as tie
 
 -- past a fault the search moves on, and not past the end
-fault-moves : (s : List ℕ) (r : ℕ) (a : Stop) → r < length s → get_or s r 0 ≡ 0x_aa → a ≡ stop_of (drop r s) → (0 < a.offset) × (r + a.offset ≤ length s)
+fault-moves : (s : List ℕ) (r : ℕ) (a : Stop) → r < length s → get_or s r 0 ≡ 0xAA → a ≡ stop_of (drop r s) → (0 < a.offset) × (r + a.offset ≤ length s)
 fault-moves s r a inside sync is =
-    let first : get_or (drop r s) 0 0 ≡ 0x_aa = get_or-drop r s 0 0 ∙ rw add-zero sync in
+    let first : get_or (drop r s) 0 0 ≡ 0xAA = get_or-drop r s 0 0 ∙ rw add-zero sync in
     let same = ap (λ (a : Stop). a.offset) is in
     let long = length-drop r s in
     (omega (arith, same, offset-behind (drop r s) (omega arith) first), omega (arith, same, long, offset-within (drop r s)))
