@@ -1,6 +1,9 @@
-// The vocabulary that the other crates share: definitions in specs/, their laws in proofs/, and the answer of a function that
-// only writes to a lent output. No code.
+// The vocabulary that the other crates share: definitions in specs/, their laws in proofs/, the answer of a function that only
+// writes to a lent output, and the writing of bytes to its start.
 #![tactic(auto)]
+
+ghost use Rattle.std.specs.Prelude.{◌≡◌, ◌≤◌, length};
+ghost use Rattle.basics.specs.Bytes.{over};
 
 // How many bytes were written, or a refusal's number and zero.
 #[repr(C)]
@@ -8,4 +11,15 @@
 pub struct Written {
     pub number: u32,
     pub length: usize,
+}
+
+// Writes `bytes` to the start of `out`, and returns how many they are.
+pub fn copy(bytes: &[u8], out: &mut [u8]) -> usize
+    requires { length bytes.now ≤ length out.old }
+    ensures value { result ≡ length bytes.now }
+    ensures out_after { out.new ≡ over bytes.now out.old }
+{
+    let length = bytes.len();
+    out[..length].copy_from_slice(bytes);
+    length
 }
