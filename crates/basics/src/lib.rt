@@ -7,7 +7,7 @@ ghost use Rattle.basics.specs.Bytes.{over};
 
 // How many bytes were written, or a refusal's number and zero.
 #[repr(C)]
-#[derive(Drop)]
+#[derive(Clone, Copy)]
 pub struct Written {
     pub number: u32,
     pub length: usize,

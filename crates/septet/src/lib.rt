@@ -6,7 +6,7 @@ ghost use Rattle.septet.specs.Answer.{extracted, injected};
 
 // A block of at most seven bytes with its septet, or a refusal: number 7, and all else zero.
 #[repr(C)]
-#[derive(Drop)]
+#[derive(Clone, Copy)]
 pub struct Septets {
     pub number: u32,
     pub bytes: [u8; 7],

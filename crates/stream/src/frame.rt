@@ -44,7 +44,7 @@ fn is_right(frame: &[u8], width: usize) -> bool
 }
 
 // How far the frames are right, and how many of them have unused septet bits set.
-#[derive(Drop)]
+#[derive(Clone, Copy)]
 pub struct Passed {
     pub at: usize,
     pub unused: u8,

@@ -12,7 +12,7 @@ mod high_bytes;
 mod unused;
 
 // The kinds of streams.
-#[derive(Drop)]
+#[derive(Clone, Copy)]
 pub enum Kind {
     Packet,
     Datagram,
@@ -21,7 +21,7 @@ pub enum Kind {
 }
 
 // What is said of a stretch of bytes (document 01's verdicts V0 to V7; by request No. 3 V5 is never given).
-#[derive(Drop)]
+#[derive(Clone, Copy)]
 pub enum Verdict {
     // V0: the stretch begins with one whole valid stream.
     Whole,
@@ -58,7 +58,7 @@ impl Verdict {
 
 // A verdict's number, with the offset that it was reached at, and how many blocks of a whole stream have unused septet bits set (0 unless V0).
 #[repr(C)]
-#[derive(Drop)]
+#[derive(Clone, Copy)]
 pub struct Validation {
     pub verdict: u8,
     pub offset: usize,
@@ -66,7 +66,7 @@ pub struct Validation {
 }
 
 // The same as a `Validation`, with the count in one byte, as it is handed on between crates: no stream has more than 127 blocks.
-#[derive(Drop)]
+#[derive(Clone, Copy)]
 pub struct Stop {
     pub verdict: u8,
     pub unused_septets: u8,
