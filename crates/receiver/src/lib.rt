@@ -15,7 +15,7 @@ use recording::Found;
 
 // The state between calls; zeroed, it is fresh. The bytes of the unfinished stream stand in the memory that is lent with it.
 #[repr(C)]
-#[derive(Drop)]
+#[derive(Clone, Copy)]
 pub struct Receiver {
     // How many bytes of the unfinished stream stand at the start of the memory.
     pub held: usize,

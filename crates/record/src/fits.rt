@@ -43,6 +43,7 @@ fn high_command(kind: Kind, command: u16) -> bool
 }
 
 // The frame count of a record, by its command and its payload's length.
+#[tactic(auto, unfolding(crate::specs::Record::frames_of))]
 pub fn frames_of(kind: Kind, command: u16, count: usize) -> usize
     ensures { result ≡ frames_of kind command count }
 {
@@ -65,6 +66,7 @@ fn wrong_length(kind: Kind, command: u16, count: usize) -> bool
 }
 
 // The number of the first of the lines 1 to 4 that applies to a record, or 0.
+#[tactic(auto, unfolding(basics::specs::Choice::choose))]
 pub fn unwritable(kind: Kind, header: Header, payload: &[u8]) -> u32
     ensures { result ≡ first (lines_as kind (record { header = header; payload = payload.now })) }
 {
@@ -87,6 +89,7 @@ pub fn unwritable(kind: Kind, header: Header, payload: &[u8]) -> u32
 }
 
 // The length of the stream of so many frames.
+#[tactic(auto, unfolding(stream::specs::Layout::header_length, stream::specs::Layout::frame_width))]
 pub fn stream_length(kind: Kind, frames: usize) -> usize
     requires { frames ≤ 127 }
     ensures { result ≡ header_length kind + (frame_width kind + 2) * frames }

@@ -13,7 +13,7 @@ use basics::Written;
 
 // The fields of a record beside its payload.
 #[repr(C)]
-#[derive(Drop)]
+#[derive(Clone, Copy)]
 pub struct Header {
     pub version: u8,
     pub destination: u16,

@@ -85,6 +85,7 @@ fn frames(payload: &[u8], width: usize, count: usize, out: &mut [u8])
     }
 }
 
+#[tactic(auto, unfolding(crate::specs::Record::frames_of, stream::specs::Layout::header_length, stream::specs::Layout::frame_width))]
 fn packet(header: Header, payload: &[u8], out: &mut [u8])
     requires { Fits Packet header.command (length payload.now) (length out.old) }
     ensures { out.new ≡ over (stream_as Packet [] (record { header = header; payload = payload.now })) out.old }
@@ -98,6 +99,7 @@ fn packet(header: Header, payload: &[u8], out: &mut [u8])
     frames(payload, 4, count, &mut out[10..]);
 }
 
+#[tactic(auto, unfolding(crate::specs::Record::frames_of, stream::specs::Layout::header_length, stream::specs::Layout::frame_width))]
 fn datagram(header: Header, payload: &[u8], out: &mut [u8])
     requires { Fits Datagram header.command (length payload.now) (length out.old) }
     ensures { out.new ≡ over (stream_as Datagram [] (record { header = header; payload = payload.now })) out.old }
@@ -109,6 +111,7 @@ fn datagram(header: Header, payload: &[u8], out: &mut [u8])
     sum(&mut out[1..], 14);
 }
 
+#[tactic(auto, unfolding(crate::specs::Record::frames_of, stream::specs::Layout::header_length, stream::specs::Layout::frame_width))]
 fn telegram(header: Header, payload: &[u8], out: &mut [u8])
     requires { Fits Telegram header.command (length payload.now) (length out.old) }
     ensures { out.new ≡ over (stream_as Telegram [] (record { header = header; payload = payload.now })) out.old }

@@ -5,5 +5,5 @@ pub mod Finding
 pub mod Partial
 pub mod Elements
 pub mod Laws
-pub mod Showing
 pub mod Samples
+pub mod Showing

@@ -20,7 +20,7 @@ pub struct Count {
 
 // Where a part stands in the payload, or a refusal's number and zeros.
 #[repr(C)]
-#[derive(Drop)]
+#[derive(Clone, Copy)]
 pub struct Part {
     pub number: u32,
     pub start: usize,

@@ -14,7 +14,6 @@ use Rattle.basics.specs.Choice.{choose}
 use Rattle.sender.specs.declared.Settings.{Settings}
 use Rattle.sender.specs.declared.Sender.{Sender}
 use Rattle.sender.specs.Energy.{max_energy_of, loss_per_byte_of, gain_per_microsecond_of, settings_refused, is_waiting, energy_left}
-use Rattle.sender.specs.Queue.{portion}
 use Rattle.sender.specs.Calls.{State, Call, Transmit, after, after_all, handed, portions, time_of, all_time}
 use Rattle.sender.proofs.Keeping.{keeps-by}
 use Rattle.sender.proofs.Portion.{none-waiting, paid}

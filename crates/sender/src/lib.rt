@@ -10,7 +10,7 @@ ghost use Rattle.sender.specs.Answer.{sent_by, start_of, enqueue_of, queue_after
 // How much energy there is at most, what a byte costs of it, and what a microsecond of waiting gives back. A largest energy of 0
 // switches energy keeping off.
 #[repr(C)]
-#[derive(Drop)]
+#[derive(Clone, Copy)]
 pub struct Settings {
     pub max_energy: u32,
     pub loss_per_byte: u32,
@@ -20,7 +20,7 @@ pub struct Settings {
 // The state between calls. The bytes stand in the queue that is lent with it: `queued` of them were queued, and the first `sent` of
 // these were handed out. It waits exactly while `energy` is below the largest.
 #[repr(C)]
-#[derive(Drop)]
+#[derive(Clone, Copy)]
 pub struct Sender {
     pub settings: Settings,
     pub energy: u32,
@@ -202,7 +202,7 @@ pub fn enqueue(sender: Sender, queue: &mut [u8; 772], bytes: &[u8]) -> Sent
     if 772 < bytes.len() {
         return without(25, sender);
     }
-    bytes::copy(bytes, &mut queue[..]);
+    queue[..bytes.len()].copy_from_slice(bytes);
     let mut after = sender;
     after.queued = bytes.len();
     after.sent = 0;
@@ -228,7 +228,7 @@ pub fn transmit(sender: Sender, queue: &[u8; 772], out: &mut [u8]) -> Sent
     let from = sender.sent;
     let end = from + size;
     let all = &queue[..];
-    bytes::copy(&all[from..end], out);
+    out[..size].copy_from_slice(&all[from..end]);
     let mut after = sender;
     after.energy = energy_after_portion(sender.settings, size);
     after.sent = end;

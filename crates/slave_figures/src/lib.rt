@@ -11,7 +11,7 @@ use slave_plans::Occupancy;
 
 // How many entries each owner holds, and the index of the lowest free one, which is 32 if there is none.
 #[repr(C)]
-#[derive(Drop)]
+#[derive(Clone, Copy)]
 pub struct Figures {
     pub no: u8,
     pub yes: u8,

@@ -79,6 +79,7 @@ pub fn read(header: Header, payload: &[u8]) -> SlaveId
 }
 
 // Refusal 18 when writing a response or entering a slave: an identifier needs more than 24 bits.
+#[tactic(auto, unfolding(crate::specs::SlaveId::too_wide))]
 pub fn too_wide(product: u32, device: u32) -> bool
     ensures { result ≡ too_wide product device }
 {

@@ -1,6 +1,6 @@
 -- What each operation on the table answers, and the table afterwards: the refusals 24 and 14 to 18 of requests No. 7 and No. 8 in the stated orders.
 -- `size` is the table's length; an index that is at least the size is that of no entry.
-use Rattle.std.specs.Prelude.{ℕ, ◌/◌, ◌%◌, ◌^◌, Bool, not, ◌&&◌, ◌||◌, List, [], ◌∷◌, length, set, ◌==◌, nat_le, nat_lt, slice_index_or, slice_set}
+use Rattle.std.specs.Prelude.{ℕ, ◌/◌, ◌%◌, ◌^◌, Bool, not, ◌&&◌, ◌||◌, List, [], ◌∷◌, length, ◌==◌, nat_le, nat_lt, slice_index_or, slice_set}
 use Rattle.basics.specs.Choice.{choose, first}
 use Rattle.basics.specs.Words.{high_word}
 use Rattle.slave_id.specs.SlaveId.{too_wide}

@@ -11,7 +11,7 @@ ghost use Rattle.slave_plans.specs.Plan.{search_start, is_sought, occupancy_star
 
 // An entry of the table. It is free exactly if its address is 0, and nobody's then.
 #[repr(C)]
-#[derive(Drop)]
+#[derive(Clone, Copy)]
 pub struct Slave {
     pub address: u16,
     pub owner: bool,
@@ -20,7 +20,7 @@ pub struct Slave {
 }
 
 // How many entries an owner holds, and the index of the lowest free one, which is at least the table's size if there is none.
-#[derive(Drop)]
+#[derive(Clone, Copy)]
 pub struct Occupancy {
     pub held: usize,
     pub free: usize,

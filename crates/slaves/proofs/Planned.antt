@@ -27,7 +27,7 @@ use Rattle.slave_figures.specs.declared.Figures.{Figures}
 use Rattle.slave_figures.specs.declared.Kept.{Kept}
 use Rattle.slave_figures.specs.declared.Checked.{Checked}
 use Rattle.slave_figures.proofs.Plans.{behind-below, free-below, free-none, kept-refused, check-24}
-use Rattle.slaves.proofs.Structs.{set_past}
+use Rattle.std.proofs.lemmas.List.{set_past}
 
 -- a plan by a refusal's number or 0, carried out: a refused one puts its entry past the end, where nothing changes
 module _ {p : Plan} {after : List Slave} (refusal index : ℕ) (entry : Slave) (table : List Slave) (put : after ≡ set table p.index p.entry) where
@@ -108,7 +108,7 @@ next-free {free} {behind} figures table right room free-is behind-is next-is =
     let found = next-is ∙ sought-free table right behind ∙ ap (λ (start : ℕ). lowest_from start is_free table) one-behind in
     ap free_or32 found ∙ free-within _ (omega (arith, right, from-most is_free (suc (free_by figures table)) table room))
 
--- ── what each function saw, planned and put, as its walk has it at the end
+-- ── what each function saw, planned and put
 
 pub enter-meets : {at free behind next : ℕ} {occupancy : Occupancy} {p : Plan} {kept : Kept} {after : List Slave}
     (figures : Figures) (slave : Slave) (table : List Slave) → at ≡ index_sought 0 false slave.owner slave.address table

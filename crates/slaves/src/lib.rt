@@ -1,5 +1,5 @@
-// The table of slaves that two owners share (requests No. 7 to No. 9), lent as a slice of entries. Each function over it is thin and proved
-// by a walk of its MIR; what it decides, crates slave_plans and slave_figures do, on plain values.
+// The table of slaves that two owners share (requests No. 7 to No. 9), lent as a slice of entries. Each function over it is thin; what it
+// decides, crates slave_plans and slave_figures do, on plain values.
 #![tactic(auto)]
 
 ghost use Rattle.std.specs.Prelude.{◌≡◌, set, get_or};
