@@ -111,7 +111,7 @@ module _ (s : List ℕ) (w : Whole s) where
 -- ── the stream copied to an output, and cleared there
 
 module _ (s out : List ℕ) where
-  -- in the words of `bytes::copy`
+  -- all its bytes copied to the start, and what lies behind kept
   pub copy_is : (new : List ℕ) → new ≡ take (length s) s ++ drop (length s) out → new ≡ over s out
   copy_is new k = copied s s out new refl k
 

@@ -1,5 +1,5 @@
 -- The next record of a recording: document 01's *next*, with its refusals 6 and 5.
-use Rattle.std.specs.Prelude.{ℕ, Bool, true, false, List, [], ◌∷◌, ltb, eqb, length}
+use Rattle.std.specs.Prelude.{ℕ, true, false, List, [], ◌∷◌, ltb, eqb, length}
 use Rattle.basics.specs.Choice.{choose, first}
 use Rattle.basics.specs.Output.{too_short, output_with}
 use Rattle.recording.specs.Recording.{Delivery, deliveries_after}

@@ -1,5 +1,5 @@
 -- A recording normalized: document 01's *wash*, with its refusal 5.
-use Rattle.std.specs.Prelude.{ℕ, List, [], ◌∷◌, ◌++◌, length}
+use Rattle.std.specs.Prelude.{ℕ, List, [], ◌∷◌, ◌++◌}
 use Rattle.basics.specs.Output.{answered_for, output_for}
 use Rattle.basics.specs.declared.Written.{Written}
 use Rattle.record.specs.Record.{Record, stream_of}

@@ -20,6 +20,7 @@ fn word_at(stream: &[u8], at: usize) -> u16
     stream[at] as u16 + 256 * (stream[at + 1] as u16)
 }
 
+#[tactic(auto, unfolding(record::specs::Record::command_in))]
 fn command_in(kind: Kind, stream: &[u8]) -> u16
     requires { 7 < length stream.now }
     ensures { result ≡ command_in kind stream.now }
@@ -46,6 +47,7 @@ pub fn header(stream: &[u8]) -> Header
 }
 
 // The frame count F, as the header announces it.
+#[tactic(auto, unfolding(stream::specs::Layout::frame_count))]
 fn frame_count(kind: Kind, stream: &[u8]) -> u8
     requires { length_as kind stream.now ≤ length stream.now }
     ensures { result ≡ frame_count kind stream.now }
