@@ -8,7 +8,7 @@ ghost use Rattle.diagnosis.specs.Stage.{SaidOf, SumsAt};
 // A sync byte that gave no record, and why: its place, the verdict on the stretch from there on with its offset, the byte that stands
 // at the offset and, for V4 and V6, the byte that would have been right. Without a fault all is zero.
 #[repr(C)]
-#[derive(Drop)]
+#[derive(Clone, Copy)]
 pub struct Fault {
     pub found: bool,
     pub place: usize,
@@ -110,7 +110,7 @@ pub fn next_fault(recording: &[u8], start: usize) -> Fault
 }
 
 // A cursor over a lent recording: document 02's reading head.
-#[derive(Drop)]
+#[derive(Clone, Copy)]
 pub struct Cursor<'a> {
     pub recording: &'a [u8],
     pub place: usize,

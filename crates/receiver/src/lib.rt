@@ -26,7 +26,7 @@ pub struct Receiver {
 // The record of a stream that was completed: the position of its 0xAA among all bytes used, how long the stream is, its header, and how
 // long its payload is; all zero where there is none. How many bytes of the chunk were used, and the state afterwards.
 #[repr(C)]
-#[derive(Drop)]
+#[derive(Clone, Copy)]
 pub struct Received {
     pub number: u32,
     pub found: bool,

@@ -21,7 +21,7 @@ use search::{Search, Span};
 // The next record: the position of its 0xAA in the input, how long its stream is, its header, and how long its payload is.
 // Where there is none, or the call is refused, every field but the number is zero.
 #[repr(C)]
-#[derive(Drop)]
+#[derive(Clone, Copy)]
 pub struct Found {
     pub number: u32,
     pub found: bool,

@@ -12,7 +12,7 @@ use record::Header;
 
 // How many there are, or a refusal's number and zero.
 #[repr(C)]
-#[derive(Drop)]
+#[derive(Clone, Copy)]
 pub struct Count {
     pub number: u32,
     pub count: usize,
@@ -29,7 +29,7 @@ pub struct Part {
 
 // A part of the caller's payload, or a refusal's number and an empty part.
 #[repr(C)]
-#[derive(Drop)]
+#[derive(Clone, Copy)]
 pub struct Shown<'a> {
     pub number: u32,
     pub part: &'a [u8],

@@ -30,7 +30,7 @@ pub struct Sender {
 
 // How many bytes were handed out, and the sender afterwards or, refused, as it was; of a refused `start` all zero.
 #[repr(C)]
-#[derive(Drop)]
+#[derive(Clone, Copy)]
 pub struct Sent {
     pub number: u32,
     pub length: usize,

@@ -20,7 +20,7 @@ pub struct Figures {
 
 // What entering and removing answer: 0 or the refusal's number, and the figures afterwards, which a refusal leaves as they were.
 #[repr(C)]
-#[derive(Drop)]
+#[derive(Clone, Copy)]
 pub struct Kept {
     pub number: u32,
     pub figures: Figures,
@@ -28,7 +28,7 @@ pub struct Kept {
 
 // Whether figures are true, or a refusal's number and no.
 #[repr(C)]
-#[derive(Drop)]
+#[derive(Clone, Copy)]
 pub struct Checked {
     pub number: u32,
     pub right: bool,

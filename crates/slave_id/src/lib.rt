@@ -11,7 +11,7 @@ use stream::Kind;
 // What a response says: the identifiers, and the device identifier's production week and consecutive number; or a refusal's number and
 // zeros.
 #[repr(C)]
-#[derive(Drop)]
+#[derive(Clone, Copy)]
 pub struct SlaveId {
     pub number: u32,
     pub product: u32,

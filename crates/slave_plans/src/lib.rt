@@ -28,7 +28,7 @@ pub struct Occupancy {
 
 // The identifiers of the slave that was found, or a refusal's number and zeros.
 #[repr(C)]
-#[derive(Drop)]
+#[derive(Clone, Copy)]
 pub struct Found {
     pub number: u32,
     pub product: u32,
@@ -36,7 +36,7 @@ pub struct Found {
 }
 
 // The answer, and an entry with the index where it is put. A refusal's is past the end, where nothing changes.
-#[derive(Drop)]
+#[derive(Clone, Copy)]
 pub struct Plan {
     pub number: u32,
     pub index: usize,
