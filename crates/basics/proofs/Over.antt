@@ -32,7 +32,7 @@ put l new a =
     ap (λ (r : List ℕ). take a l ++ (new ++ r)) (drop_of_length-le (drop a l) {i = length l - a} (simp length-drop (omega arith)))
     ∙ ap (λ (r : List ℕ). take a l ++ r) (append-nil new)
 
--- a list copied over the start, as the kit's `bytes::copy` says it
+-- a list copied over the start, as the copying of bytes says it
 pub copied : (p source l new : List ℕ) → source ≡ p → new ≡ take (length source) source ++ drop (length source) l → new ≡ over p l
 copied p source l new e k = k ∙ rw (take-length, e)
 

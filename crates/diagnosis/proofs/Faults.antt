@@ -5,7 +5,7 @@ use native.Mathlib.Nat.{add-zero}
 use native.Mathlib.Numerals.{add-one}
 use native.Mathlib.Decide.{dec_lt, ℕ_discrete}
 use mathlib.Core.Path.{◌≡◌, refl, ap, ◌∙◌, sym}
-use mathlib.Core.Bool.{Bool, true, false, not, true≢false}
+use mathlib.Core.Bool.{Bool, true, false, not, ◌&&◌, true≢false}
 use mathlib.Core.Logic.{dite}
 use mathlib.Core.List.{List, [], ◌∷◌}
 use borrow.Author.Tests.{eq-eqb, ne_eqb, eqb-true}
@@ -13,7 +13,6 @@ use lib.Dec.{eqb}
 use lib.ListN.{length, get_or, take, drop, drop_of_length-le}
 use lib.Seq.{drop-cons, get_or-drop}
 use Rattle.basics.specs.Choice.{choose}
-use Rattle.basics.proofs.Choice.{both}
 use Rattle.checksum.specs.Checksum.{checksum_of}
 use Rattle.stream.specs.Layout.{kind, payload_length_of}
 use Rattle.stream.specs.declared.Kind.{Kind}
@@ -38,6 +37,10 @@ module _ (s : List ℕ) where
 
   pub whole-no-fault : get_or s 0 0 ≡ 0xAA → Whole s → is_fault s ≡ false
   whole-no-fault sync w = rw (eq-eqb _ _ sync, eq-eqb _ _ w) refl
+
+both : (a b : Bool) → (a && b) ≡ true → (a ≡ true) × (b ≡ true)
+both true b e = (refl, e)
+both false b e = absurd (true≢false (sym e))
 
 module _ (s : List ℕ) (e : is_fault s ≡ true) where
   pub fault-sync : get_or s 0 0 ≡ 0xAA
