@@ -12,7 +12,7 @@ use Rattle.explanation.specs.Stage.{Appended}
 pub nothing : (most : ℕ) (old : List ℕ) (at : ℕ) → Appended most [] old at old at
 nothing most old at = record { small = omega arith; begins = sym (append-nil (take at old)) }
 
--- a text is copied to the part from `at` on, as the kit's `bytes::copy` says it
+-- a text is copied to the part from `at` on
 pub copied_at : (text old new : List ℕ) (at size : ℕ) → at ≤ length old → size ≡ length text
     → new ≡ take (length text) text ++ drop (length text) (take (length old - at) (drop at old))
     → Appended (length text) text old at (take at old ++ (new ++ drop (length old - at) (drop at old))) (at + size)

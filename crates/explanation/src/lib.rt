@@ -32,7 +32,7 @@ pub fn line(fault: Fault, out: &mut [u8]) -> Written
     if out.len() < length {
         return TOO_SHORT;
     }
-    bytes::copy(&text[0..length], out);
+    basics::copy(&text[0..length], out);
     Written { number: 0, length }
 }
 
@@ -48,7 +48,7 @@ pub fn explain(input: &[u8], out: &mut [u8]) -> Written
     if input.len() > MOST {
         return Written {
             number: 0,
-            length: bytes::copy(b"too long\n", out),
+            length: basics::copy(b"too long\n", out),
         };
     }
     Written {

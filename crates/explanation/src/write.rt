@@ -10,7 +10,7 @@ fn piece(text: &[u8], out: &mut [u8], at: usize) -> usize
     requires { at + length text.now ≤ length out.old }
     ensures { Appended (length text.now) text.now out.old at out.new result }
 {
-    at + bytes::copy(text, &mut out[at..])
+    at + basics::copy(text, &mut out[at..])
 }
 
 fn decimal(n: usize, out: &mut [u8], at: usize) -> usize

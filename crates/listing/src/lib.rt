@@ -40,7 +40,7 @@ pub fn line(header: Header, payload: &[u8], out: &mut [u8]) -> Written
     }
     write::head(kind, header, out);
     write::payload(payload, &mut out[head..]);
-    bytes::copy(b"\n", &mut out[end..]);
+    basics::copy(b"\n", &mut out[end..]);
     let length = end + 1;
     Written { number: 0, length }
 }
@@ -57,7 +57,7 @@ pub fn list(input: &[u8], out: &mut [u8]) -> Written
     if input.len() > MOST {
         return Written {
             number: 0,
-            length: bytes::copy(b"too long\n", out),
+            length: basics::copy(b"too long\n", out),
         };
     }
     Written {

@@ -61,10 +61,10 @@ fn command(kind: Kind, command: u16, out: &mut [u8])
 {
     if is_byte(kind, command) {
         let digits = text::hex_byte(command as u8);
-        bytes::copy(&[b' ', digits[0], digits[1]], out);
+        basics::copy(&[b' ', digits[0], digits[1]], out);
     } else {
         let digits = text::hex_word(command);
-        bytes::copy(&[b' ', digits[0], digits[1], digits[2], digits[3]], out);
+        basics::copy(&[b' ', digits[0], digits[1], digits[2], digits[3]], out);
     }
 }
 
@@ -78,7 +78,7 @@ pub fn head(kind: Kind, header: Header, out: &mut [u8])
     requires { length (lines.hex_head kind header) ≤ length out.old }
     ensures { out.new ≡ over (lines.hex_head kind header) out.old }
 {
-    bytes::copy(&fields(kind, header), out);
+    basics::copy(&fields(kind, header), out);
     command(kind, header.command, &mut out[14..]);
 }
 
@@ -98,7 +98,7 @@ fn hex_bytes(bytes: &[u8], out: &mut [u8])
     let mut i = 0;
     while i < bytes.len() {
         let at = 2 * i;
-        bytes::copy(&text::hex_byte(bytes[i]), &mut out[at..]);
+        basics::copy(&text::hex_byte(bytes[i]), &mut out[at..]);
         i += 1;
     }
 }
@@ -111,6 +111,6 @@ pub fn payload(payload: &[u8], out: &mut [u8])
     if payload.len() == 0 {
         return;
     }
-    bytes::copy(b" ", out);
+    basics::copy(b" ", out);
     hex_bytes(payload, &mut out[1..]);
 }

@@ -6,7 +6,7 @@ use crate::Receiver;
 use crate::length::announced;
 
 // How many bytes are held, and how many their stream has at least: the announced length is looked up again only when so many are held.
-#[derive(Drop)]
+#[derive(Clone, Copy)]
 pub struct Unfinished {
     pub held: usize,
     pub least: usize,
@@ -44,6 +44,7 @@ pub fn restore(receiver: Receiver, memory: &[u8]) -> Unfinished
 }
 
 // A byte of 0x80 or more: 0xAA begins a stream, any other ends the one that is held.
+#[tactic(auto, using(crate::proofs::Memory::begins))]
 fn begin(memory: &mut [u8], byte: u8) -> Unfinished
     requires { (length memory.old ≡ 772) × (0x80 ≤ byte) }
     ensures { TookByte [] byte memory.new result }

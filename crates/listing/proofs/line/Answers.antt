@@ -1,0 +1,74 @@
+-- `line` meets its contract: what is written piece by piece is the line, and its length is known before. Assumes nothing.
+use Prim.Native.Nat.{ℕ, ◌+◌, ◌<◌, ◌≤◌}
+use native.Mathlib.Omega.{arith}
+use mathlib.Core.Path.{◌≡◌, ap, ◌∙◌, sym}
+use mathlib.Core.List.{List, ◌++◌}
+use lib.ListN.{length, length-append}
+use Rattle.basics.specs.Bytes.{over}
+use Rattle.basics.proofs.Over.{lent}
+use Rattle.basics.proofs.Output.{answered-short, answered-fits, output-kept, output-written}
+use Rattle.text.specs.Ascii.{ascii}
+use Rattle.record.specs.Record.{Record}
+use Rattle.listing.specs.Line.{hex_payload, hex_head, line_of, line_written, line_after}
+use Rattle.listing.proofs.Lines.{length-head, length-command, length-hex_payload, line_as, length-line, line-longer}
+use Rattle.listing.proofs.line.Goals as goal
+
+-- both clauses, for an output that is too short
+refuses : (r : Record) (out : List ℕ) → length out < length (line_of r)
+    → (record { number = 5; length = 0 } ≡ line_written r (length out)) × (out ≡ line_after r out)
+refuses r out short = (sym (answered-short (line_of r) (length out) short), sym (output-kept (line_of r) out short))
+
+pub returns-then-out-payload : goal.returns-then-out-payload
+returns-then-out-payload c =
+    let r : Record = record { header = c.args.header; payload = c.args.payload.now } in
+    let both = refuses r c.args.out.now (omega (arith, line-longer r)) in
+    record { value = both.0; out_after = both.1 }
+
+pub overflow_add-end : goal.overflow_add-end
+overflow_add-end c =
+    let r : Record = record { header = c.args.header; payload = c.args.payload.now } in
+    record {
+      fits =
+          omega
+          (arith, c.head_length-head.ensures, c.payload_text_length.ensures, length-command c.kind_of-kind.result r.header.command, length-hex_payload r.payload);
+    }
+
+pub returns-then-out-end : goal.returns-then-out-end
+returns-then-out-end c =
+    let r : Record = record { header = c.args.header; payload = c.args.payload.now } in
+    let K = c.kind_of-kind.result in
+    let head = length-head K c.args.header ∙ sym c.head_length-head.ensures in
+    let size : length (line_of r) ≡ c.head_length-head.result + c.payload_text_length.result + 1 =
+    (let all = length-line K r c.kind_of-kind.ensures in omega (arith, all, head, c.payload_text_length.ensures)) in
+    let both = refuses r c.args.out.now (omega arith) in
+    record { value = both.0; out_after = both.1 }
+
+pub head-requires : goal.head-requires
+head-requires c =
+    let r : Record = record { header = c.args.header; payload = c.args.payload.now } in
+    let K = c.kind_of-kind.result in
+    let head = length-head K c.args.header ∙ sym c.head_length-head.ensures in
+    let size : length (line_of r) ≡ c.head_length-head.result + c.payload_text_length.result + 1 =
+    (let all = length-line K r c.kind_of-kind.ensures in omega (arith, all, head, c.payload_text_length.ensures)) in
+    omega arith
+
+pub returns : goal.returns
+returns c =
+    let r : Record = record { header = c.args.header; payload = c.args.payload.now } in
+    let K = c.kind_of-kind.result in
+    let head = length-head K c.args.header ∙ sym c.head_length-head.ensures in
+    let size : length (line_of r) ≡ c.head_length-head.result + c.payload_text_length.result + 1 =
+    (let all = length-line K r c.kind_of-kind.ensures in omega (arith, all, head, c.payload_text_length.ensures)) in
+    let out = c.args.out.now in
+    let digits = hex_head K r.header in
+    let end : length (digits ++ hex_payload r.payload) ≡ c.head_length-head.result + c.payload_text_length.result =
+    omega (arith, length-append digits (hex_payload r.payload), head, c.payload_text_length.ensures) in
+    let fits : length (line_of r) ≤ length out = omega arith in
+    record {
+      value = sym (answered-fits (line_of r) (length out) fits ∙ ap (λ (n : ℕ). record { number = 0; length = n }) size);
+      out_after =
+          lent (digits ++ hex_payload r.payload) (ascii "\n") out _ _ _ end
+          (lent digits (hex_payload r.payload) out _ _ _ head c.head.ensures c.payload.ensures) c.copy.ensures.out_after
+          ∙ ap (λ (l : List ℕ). over l out) (sym (line_as K r c.kind_of-kind.ensures))
+          ∙ sym (output-written (line_of r) out fits);
+    }
