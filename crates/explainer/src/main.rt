@@ -3,16 +3,18 @@
 
 use explanation::ROOM;
 use listing::MOST;
+use std::process::ExitCode;
 
-fn print_with(recording: &[u8], out: &mut [u8]) {
+// Whether whoever reads the output is still there.
+fn print_with(rt: &HostRuntime, recording: &[u8], out: &mut [u8]) -> bool {
     let written = explanation::explain(recording, out);
-    stdio::write_output(listing::written_text(out, written));
+    stdio::write_output(rt, listing::written_text(out, written))
 }
 
 // The output is a local of this function alone: the prover can't count so many bytes, and a law has to tell their number.
-fn print_explanation(recording: &[u8]) {
+fn print_explanation(rt: &HostRuntime, recording: &[u8]) -> bool {
     let mut out = [0u8; ROOM];
-    print_with(recording, &mut out);
+    print_with(rt, recording, &mut out)
 }
 
 // An explanation is empty where all is well, so whether there is a record is asked for itself.
@@ -21,16 +23,19 @@ fn has_record(recording: &[u8]) -> bool {
     recording::next(recording, 0, &mut payload).found
 }
 
-fn main() {
+fn main(rt: HostRuntime) -> ExitCode {
     // One byte more than is explained shows that there is more.
     let mut input = [0u8; MOST + 1];
-    let size = stdio::read_input(&mut input);
-    print_explanation(&input[..size]);
+    let size = stdio::read_input(&rt, &mut input);
+    if !print_explanation(&rt, &input[..size]) {
+        return stdio::reader_gone();
+    }
     if size > MOST {
-        stdio::tell_too_long();
+        stdio::tell_too_long(&rt);
     } else if size > 0 {
         if !has_record(&input[..size]) {
-            stdio::tell_no_record(size);
+            stdio::tell_no_record(&rt, size);
         }
     }
+    ExitCode::SUCCESS
 }

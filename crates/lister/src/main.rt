@@ -2,20 +2,25 @@
 #![tactic(auto)]
 
 use listing::{MOST, ROOM};
+use std::process::ExitCode;
 
-fn main() {
+fn main(rt: HostRuntime) -> ExitCode {
     // One byte more than is listed shows that there is more.
     let mut input = [0u8; MOST + 1];
     let mut out = [0u8; ROOM];
-    let size = stdio::read_input(&mut input);
+    let size = stdio::read_input(&rt, &mut input);
     let written = listing::list(&input[..size], &mut out);
-    stdio::write_output(listing::written_text(&out, written));
+    let length = written.length;
+    if !stdio::write_output(&rt, listing::written_text(&out, written)) {
+        return stdio::reader_gone();
+    }
     if size > MOST {
-        stdio::tell_too_long();
+        stdio::tell_too_long(&rt);
     }
     if size > 0 {
-        if written.length == 0 {
-            stdio::tell_no_record(size);
+        if length == 0 {
+            stdio::tell_no_record(&rt, size);
         }
     }
+    ExitCode::SUCCESS
 }

@@ -1,73 +1,74 @@
 // The fields of a line, a space before each, written to standard output one by one.
 use record::Header;
+use std::io::Print;
 
-pub fn text(text: &[u8]) {
-    io::write_all(libc::STDOUT_FILENO, text);
+pub fn text(rt: &HostRuntime, text: &[u8]) {
+    let _ = rt.write_all(text);
 }
 
-pub fn say(word: &[u8]) {
-    text(b" ");
-    text(word);
+pub fn say(rt: &HostRuntime, word: &[u8]) {
+    text(rt, b" ");
+    text(rt, word);
 }
 
 // A word, if two slices are the same.
-pub fn same(a: &[u8], b: &[u8], word: &[u8]) {
-    if check::same(a, b) {
-        say(word);
+pub fn same(rt: &HostRuntime, a: &[u8], b: &[u8], word: &[u8]) {
+    if a == b {
+        say(rt, word);
     } else {
-        say(b"changed");
+        say(rt, b"changed");
     }
 }
 
 // A byte as two digits, with no space before it.
-fn pair(byte: u8) {
+fn pair(rt: &HostRuntime, byte: u8) {
     let digits = text::hex_byte(byte);
-    text(&digits);
+    text(rt, &digits);
 }
 
-fn pairs(bytes: &[u8]) {
+fn pairs(rt: &HostRuntime, bytes: &[u8]) {
     let mut i = 0;
     while i < bytes.len() {
-        pair(bytes[i]);
+        pair(rt, bytes[i]);
         i += 1;
     }
 }
 
-pub fn byte(byte: u8) {
-    text(b" ");
-    pair(byte);
+pub fn byte(rt: &HostRuntime, byte: u8) {
+    text(rt, b" ");
+    pair(rt, byte);
 }
 
 // Bytes as one field, or none where there are no bytes.
-pub fn bytes(bytes: &[u8]) {
+pub fn bytes(rt: &HostRuntime, bytes: &[u8]) {
     if bytes.len() != 0 {
-        text(b" ");
-        pairs(bytes);
+        text(rt, b" ");
+        pairs(rt, bytes);
     }
 }
 
-fn word(word: u16) {
+fn word(rt: &HostRuntime, word: u16) {
     let digits = text::hex_word(word);
-    say(&digits);
+    say(rt, &digits);
 }
 
 // A header and a payload.
-pub fn record(header: Header, payload: &[u8]) {
-    byte(header.version);
-    word(header.destination);
-    word(header.source);
-    word(header.command);
-    bytes(payload);
+pub fn record(rt: &HostRuntime, header: Header, payload: &[u8]) {
+    byte(rt, header.version);
+    word(rt, header.destination);
+    word(rt, header.source);
+    word(rt, header.command);
+    bytes(rt, payload);
 }
 
 // A number behind a space, or behind a space and a letter or a sign.
-pub fn decimal(before: &[u8], n: u64) {
-    text(before);
-    io::print_decimal(libc::STDOUT_FILENO, n);
+pub fn decimal(rt: &HostRuntime, before: &[u8], n: u64) {
+    text(rt, before);
+    let _ = print!(rt; "{n}");
 }
 
-pub fn number(n: u64) {
-    decimal(b" ", n);
+pub fn number(rt: &HostRuntime, n: u64) {
+    decimal(rt, b" ", n);
 }
 
 fn magnitude(n: i32) -> u64 {
@@ -78,10 +79,10 @@ fn magnitude(n: i32) -> u64 {
     }
 }
 
-pub fn signed(n: i32) {
+pub fn signed(rt: &HostRuntime, n: i32) {
     if n < 0 {
-        decimal(b" -", magnitude(n));
+        decimal(rt, b" -", magnitude(n));
     } else {
-        number(magnitude(n));
+        number(rt, magnitude(n));
     }
 }

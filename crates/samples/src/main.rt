@@ -21,67 +21,67 @@ mod part;
 const HEAD: usize = 16;
 
 // The fields behind the name.
-fn fields(question: &[u8], bytes: &[u8]) {
+fn fields(rt: &HostRuntime, question: &[u8], bytes: &[u8]) {
     let n = part::word(question, 6) as usize;
     let m = part::word(question, 8) as usize;
     let header = part::header(question);
     match part::byte(question, 0) {
-        b'c' => field::byte(checksum::checksum(bytes)),
-        b'x' => answer::septets(septet::extract(part::seven(bytes), n)),
-        b'j' => answer::septets(septet::inject(part::seven(bytes), n, header.version)),
-        b'v' => answer::validate(bytes),
-        b'e' => answer::encode(header, bytes, n),
-        b'l' => answer::long_packet(header, bytes),
-        b'r' => answer::row(header, bytes),
-        b'i' => field::signed(record::value(part::six(bytes))),
-        b'n' => answer::next(bytes, n, m),
-        b'w' => answer::receive(bytes, n),
-        b'W' => answer::receive_last(bytes, n, m),
-        b'f' => answer::fault(diagnosis::next_fault(bytes, n)),
-        b'z' => answer::normalize(bytes, n),
-        b's' => answer::count(sections::section_count(header, bytes)),
-        b'S' => answer::place(sections::find_section(header, bytes, n), bytes),
-        b'm' => answer::count(sections::element_count(header, bytes, n)),
-        b'M' => answer::place(sections::find_element(header, bytes, n, m), bytes),
-        b't' => answer::temperature(bytes),
-        b'k' => answer::slave_id(slave_id::read(header, bytes)),
-        b'K' => answer::write_slave_id(header, bytes, n),
-        _ => field::say(b"unknown"),
+        b'c' => field::byte(rt, checksum::checksum(bytes)),
+        b'x' => answer::septets(rt, septet::extract(part::seven(bytes), n)),
+        b'j' => answer::septets(rt, septet::inject(part::seven(bytes), n, header.version)),
+        b'v' => answer::validate(rt, bytes),
+        b'e' => answer::encode(rt, header, bytes, n),
+        b'l' => answer::long_packet(rt, header, bytes),
+        b'r' => answer::row(rt, header, bytes),
+        b'i' => field::signed(rt, record::value(part::six(bytes))),
+        b'n' => answer::next(rt, bytes, n, m),
+        b'w' => answer::receive(rt, bytes, n),
+        b'W' => answer::receive_last(rt, bytes, n, m),
+        b'f' => answer::fault(rt, diagnosis::next_fault(bytes, n)),
+        b'z' => answer::normalize(rt, bytes, n),
+        b's' => answer::count(rt, sections::section_count(header, bytes)),
+        b'S' => answer::place(rt, sections::find_section(header, bytes, n), bytes),
+        b'm' => answer::count(rt, sections::element_count(header, bytes, n)),
+        b'M' => answer::place(rt, sections::find_element(header, bytes, n, m), bytes),
+        b't' => answer::temperature(rt, bytes),
+        b'k' => answer::slave_id(rt, slave_id::read(header, bytes)),
+        b'K' => answer::write_slave_id(rt, header, bytes, n),
+        _ => field::say(rt, b"unknown"),
     }
 }
 
-fn line(question: &[u8]) {
+fn line(rt: &HostRuntime, question: &[u8]) {
     let name = part::word(question, 2) as usize;
     let rest = part::behind(question, HEAD);
-    field::text(part::first(rest, name));
-    fields(question, part::behind(rest, name));
-    field::text(b"\n");
+    field::text(rt, part::first(rest, name));
+    fields(rt, question, part::behind(rest, name));
+    field::text(rt, b"\n");
 }
 
 // Answers the question at a place, and gives the place behind it: the end of the input, where the question is cut off.
-fn line_at(input: &[u8], at: usize) -> usize
+fn line_at(rt: &HostRuntime, input: &[u8], at: usize) -> usize
     requires { at < length input.now }
     ensures { at < result }
 {
     let rest = &input[at..];
     let size = HEAD + (part::word(rest, 2) as usize) + (part::word(rest, 4) as usize);
     if rest.len() < size {
-        field::text(b"cut off\n");
+        field::text(rt, b"cut off\n");
         return input.len();
     }
-    line(&rest[0..size]);
+    line(rt, &rest[0..size]);
     at + size
 }
 
-fn lines(input: &[u8]) {
+fn lines(rt: &HostRuntime, input: &[u8]) {
     let mut at = 0;
     while at < input.len() {
-        at = line_at(input, at);
+        at = line_at(rt, input, at);
     }
 }
 
-fn main() {
+fn main(rt: HostRuntime) {
     let mut input = [0u8; 65536];
-    let size = io::read_full(libc::STDIN_FILENO, &mut input);
-    lines(&input[..size]);
+    let size = stdio::read_input(&rt, &mut input);
+    lines(&rt, &input[..size]);
 }

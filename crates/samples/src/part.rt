@@ -45,7 +45,7 @@ pub fn header(s: &[u8]) -> Header {
 pub fn six(s: &[u8]) -> [u8; 6] {
     let mut payload = [0u8; 6];
     if s.len() <= 6 {
-        bytes::copy(s, &mut payload);
+        payload[..s.len()].copy_from_slice(s);
     }
     payload
 }
@@ -53,7 +53,7 @@ pub fn six(s: &[u8]) -> [u8; 6] {
 pub fn seven(s: &[u8]) -> [u8; 7] {
     let mut block = [0u8; 7];
     if s.len() <= 7 {
-        bytes::copy(s, &mut block);
+        block[..s.len()].copy_from_slice(s);
     }
     block
 }

@@ -1,29 +1,49 @@
 // What a program needs that turns standard input into standard output.
-// A program has no exit status, so what went wrong is a line on standard error, which a script turns into one.
+// What went wrong is a line on standard error, which a script turns into an exit status.
 #![tactic(auto)]
 
-ghost use Rattle.io.specs.Counts.{IsPrefixLen};
+ghost use Rattle.std.specs.Prelude.{◌≡◌, ◌≤◌, length, take};
 
-use libc::{STDERR_FILENO, STDIN_FILENO, STDOUT_FILENO};
+use std::fs;
+use std::fs::OpenOptions;
+use std::io::{Eprint, Error, ErrorKind, Input, Print, Read, Result, Write};
+use std::os::fd::AsFd;
+use std::process::ExitCode;
+
+// Tells why a stream couldn't be read or written: its name and the system's words, without the number that std puts behind these.
+fn tell(rt: &impl Eprint, stream: &str, error: Error) {
+    let mut text = [0u8; 256];
+    let _ = write!(&mut text[..], "{error}");
+    let words = str::from_utf8(&text).unwrap_or("");
+    let end = words
+        .find(" (os error ")
+        .or(words.find('\0'))
+        .unwrap_or(words.len());
+    let _ = eprintln!(rt; "{stream}: {}", &words[..end]);
+}
 
 // Reads once, and answers how many bytes came: none where the input ends, and where the read fails, which is told.
-fn read_some(input: &mut [u8]) -> usize
-    ensures { IsPrefixLen result input.new }
+fn read_some<R: Input + Eprint>(rt: &R, input: &mut [u8]) -> usize
+    ensures in_bounds { result ≤ length input.new }
+    ensures prefix { result ≡ length (take result input.new) }
 {
-    let got = libc::read(STDIN_FILENO, input);
-    if got < 0 {
-        os::fail(b"standard input");
+    match rt.reader().read(input) {
+        Ok(count) => count,
+        Err(e) => {
+            tell(rt, "standard input", e);
+            0
+        }
     }
-    io::count(got, input)
 }
 
 // Reads until `input` is full or nothing more comes, and answers how many bytes there are.
-pub fn read_input(input: &mut [u8]) -> usize
-    ensures { IsPrefixLen result input.new }
+pub fn read_input<R: Input + Eprint>(rt: &R, input: &mut [u8]) -> usize
+    ensures in_bounds { result ≤ length input.new }
+    ensures prefix { result ≡ length (take result input.new) }
 {
     let mut size = 0;
     while size < input.len() {
-        let more = read_some(&mut input[size..]);
+        let more = read_some(rt, &mut input[size..]);
         if more == 0 {
             break;
         }
@@ -32,24 +52,51 @@ pub fn read_input(input: &mut [u8]) -> usize
     size
 }
 
-// Closing shows what writing didn't, as where a full disk is found out late.
-pub fn write_output(text: &[u8]) {
-    let mut is_written = io::write_all(STDOUT_FILENO, text);
-    if is_written {
-        is_written = libc::close(STDOUT_FILENO) == 0;
+// Waits until the bytes of a file are on its disk, since a full disk may be found out late. What is no file, or can't be opened once more,
+// is let be.
+fn sync_output(rt: &HostRuntime) -> Result<()> {
+    let is_file = match fs::metadata(rt, "/dev/stdout") {
+        Ok(found) => found.is_file(),
+        Err(_) => false,
+    };
+    if !is_file {
+        return Ok(());
     }
-    if !is_written {
-        os::fail(b"standard output");
+    match OpenOptions::new().append(true).open(rt, "/dev/stdout") {
+        Ok(file) => file.sync_data(),
+        Err(_) => Ok(()),
     }
 }
 
-pub fn tell_too_long() {
-    io::write_all(STDERR_FILENO, b"too long: more than 65,536 bytes\n");
+// A second descriptor of the output shows whether it is closed, also where there is nothing to write.
+fn write_whole(rt: &HostRuntime, text: &[u8]) -> Result<()> {
+    rt.write_all(text)?;
+    rt.stdout().as_fd().try_clone_to_owned()?;
+    sync_output(rt)
+}
+
+// Answers whether whoever reads the output is still there: if not, nobody is told.
+pub fn write_output(rt: &HostRuntime, text: &[u8]) -> bool {
+    match write_whole(rt, text) {
+        Ok(()) => true,
+        Err(e) if e.kind() == ErrorKind::BrokenPipe => false,
+        Err(e) => {
+            tell(rt, "standard output", e);
+            true
+        }
+    }
+}
+
+// The status where nobody reads the output any more: what a shell gives for the signal SIGPIPE, which std holds back.
+pub fn reader_gone() -> ExitCode {
+    ExitCode::from(141)
+}
+
+pub fn tell_too_long(rt: &impl Eprint) {
+    let _ = eprintln!(rt; "too long: more than 65,536 bytes");
 }
 
 // A recording without a record may be a file in another format.
-pub fn tell_no_record(size: usize) {
-    io::write_all(STDERR_FILENO, b"no record found, bytes looked at: ");
-    io::print_decimal(STDERR_FILENO, size as u64);
-    io::write_all(STDERR_FILENO, b"\n");
+pub fn tell_no_record(rt: &impl Eprint, size: usize) {
+    let _ = eprintln!(rt; "no record found, bytes looked at: {size}");
 }
