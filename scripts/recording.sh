@@ -37,7 +37,8 @@ tell() {
     case $#,$said in 3,'standard input: '*) said="$3: ${said#standard input: }" ;; esac
     [ -z "$said" ] || printf '%s\n' "$said" | sed "s/^/$command: /" >&2
     case $said in *'too long: '*) printf '%s: %s\n' "$command" "$2" >&2 ;; esac
-    # A program has no exit status of its own: whatever it says is a failure, but that there is no record.
+    # A program ends in 0 whatever it met, or in 141 where whoever reads its output has gone: what it says is a failure, but that there is
+    # no record.
     failure=$(printf '%s\n' "$said" | grep -v '^no record found')
     case $status in
         0) [ -z "$failure" ] ;;

@@ -18,6 +18,7 @@ from pathlib import Path
 TOP = Path(__file__).resolve().parent.parent
 NOBODY = 65534
 SECONDS = 120
+BUILDING = 3600  # seconds that a call may take which builds what rt hasn't kept
 PATIENCE = 120  # seconds that a line, an end or a setting may take, however busy the machine is; none of them takes so long
 
 IFLAG, OFLAG, CFLAG, LFLAG, ISPEED, OSPEED, CC = range(7)
@@ -74,8 +75,8 @@ def built(name, made, *parts):
 
 
 def copied(made):
-    """The repository and what rt built; for everyone to read."""
-    left_out = {TOP: {".git"}, TOP / "rust": {"target"}, TOP / "target": {"must-fail", "goals"}}
+    """The repository and what ./build made, without rt's own work: rt begins with what it kept here. For everyone to read."""
+    left_out = {TOP: {".git"}, TOP / "rust": {"target"}, **{crate: {"out"} for crate in (TOP / "crates").iterdir()}}
     shutil.copytree(TOP, made / "copy", ignore=lambda folder, _: left_out.get(Path(folder), set()))
     run(["chmod", "-R", "a+rX", made])
     return made / "copy"
@@ -85,7 +86,7 @@ def tools_without(made, *missing):
     """A folder with every tool that the scripts call but those."""
     folder = made / f"without-{'-'.join(missing)}"
     folder.mkdir()
-    for tool in "sh sed dirname readlink find head tail tee mkdir touch date grep rm mktemp cat flock rt python3 gcc g++ nm cargo pkg-config".split():
+    for tool in "sh sed dirname basename readlink find head tail tee mkdir touch date grep rm mktemp cat cp mv cmp flock rt python3 gcc g++ nm cargo pkg-config".split():
         where = shutil.which(tool)
         if tool not in missing and where:
             (folder / tool).symlink_to(where)
