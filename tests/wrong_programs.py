@@ -1,70 +1,64 @@
 #!/usr/bin/env python3
-"""usage: wrong_programs.py            writes docs/WRONG-PROGRAMS.md
-       wrong_programs.py --check    writes nothing, and says each line in which the stored file differs
+"""usage: wrong_programs.py [SAID]            writes docs/WRONG-PROGRAMS.md
+       wrong_programs.py --check [SAID]    writes nothing, and says each line in which the stored file differs
 
 The tables of the wrong programs: of every crates/CRATE/must-fail/EDIT.edit what it breaks, by its own first line, and the first fact that the
-prover refused, by its log, target/must-fail/CRATE/EDIT/.log. `rt ci` and `rt must-fail` leave the logs there: whoever adds an edit or
-changes one runs `rt must-fail CRATE`, and then this.
+prover refused, by what rt says of the edit. SAID is a file with what `rt ci` or `rt must-fail` printed; without one `rt must-fail` is run
+here, which tries only what changed since it was tried.
 
-The prover's text is read strictly: a line that isn't known here, or a fact that WORDS has no words for, ends it, with the log and the line.
-Each edit must begin with its comment and find each `old` exactly once in its file, and its log must be that of today's edit and crate.
-Exit status: 0, 1 if something differs or is wrong, 2 if a log is missing or out of date.
+rt's text is read strictly: a line that isn't known here, or a fact that WORDS has no words for, ends it, with the line. Each edit must begin
+with its comment, find each `old` exactly once in its file, and be told of exactly once.
+Exit status: 0, 1 if something differs or is wrong, 2 if rt tells nothing of an edit, or not whether it is refused.
 """
 import difflib
 import pathlib
 import re
+import subprocess
 import sys
 
 TOP = pathlib.Path(__file__).resolve().parent.parent
-LOGS = TOP / "target" / "must-fail"
 STORED = TOP / "docs" / "WRONG-PROGRAMS.md"
 
-# What kind of fact it is, and the words for it. Need-.. is the prover's own name for what it asks of a function's proof: VAR is a variable
-# or a call of the code, AGAIN the number of a second fact of that name and of those after it.
-VAR = r"-[\w'-]+"
-AGAIN = r"(-\d+)?"
+# What kind of fact it is, by the prover's own name for a goal of a function's proof, and the words for it. A goal's name may go on with the
+# variable or the branch that it is of, and a number.
+ON = r"(-\S+)?"
 WORDS = (
-    ("sample", "sample"),
-    ("law", "law"),
-    ("lemma", "a lemma of its proof"),
-    ("Need-returns" + AGAIN, "what it ensures on return"),
-    (r"Need-[\w-]+-requires" + AGAIN, "what a callee asks of its caller"),
-    ("Need-loop-holds" + AGAIN, "the loop's invariant at its start"),
-    ("Need-loop-again" + AGAIN, "the loop's invariant after a turn"),
-    ("Need-loop-less" + AGAIN, "that the loop's measure falls with each turn"),
-    ("Need-(add|sub|mul|cast)" + VAR, "that a number fits its type"),
-    ("Need-(slice|shared-slice|array)-(read|write)" + VAR, "that an index is below the length"),
-    ("Need-part" + VAR + "-(start|end)" + AGAIN, "that a part lies within its whole"),
-    ("Need-same-length" + AGAIN, "that a lent slice keeps its length"),
+    ("returns" + ON, "what it ensures on return"),
+    (r"\S+-requires" + ON, "what a callee asks of its caller"),
+    (r"loop-\S+-init", "the loop's invariant at its start"),
+    (r"loop-\S+-preserved", "the loop's invariant after a turn"),
+    (r"loop-\S+-smaller", "that the loop's measure falls with each turn"),
+    ("overflow_(add|sub|mul|neg|shl|shr|cast|step)" + ON, "that a number fits its type"),
+    ("nonzero_(div|rem)" + ON, "that a divisor isn't 0"),
+    ("bounds" + ON, "that an index is below the length"),
+    ("(slice|offset)_bounds" + ON, "that a part lies within its whole"),
+    ("shape_of" + ON, "that a lent slice keeps its length"),
 )
 
-# The lines of a log. An error says what is refused, and why: REFUSED has how it begins where a fact is refused, since an error may also say
-# that a proof's text is unfit for the program, which tells nothing of a fact. A function with no proof of its own has no error but a line.
-ERROR = re.compile(r"[^`]*/must-fail/(?P<edit>[^/]+/[^/]+)/(?P<path>[^:]+):\d+:\d+: error: `(?P<fact>[^`]+)`: (?P<why>.*)")
+# What rt says of an edit that is refused, with the first line of the check that tells of an error, which is cut off at some length. In a goal
+# that the prover closes by itself it is a note, by the place in the source; in a proof's file an error, by the file and the fact. REFUSED has
+# how an error begins where a fact is refused, since one may also say that a proof's text is unfit for the program, which tells nothing of a fact.
+TOLD = re.compile(r"rt: must-fail (?P<crate>\w+)/(?P<edit>[\w.-]+)\.edit: (?P<what>.*)")
+AS_IT_MUST = re.compile(r"refused, as it must be: (?P<line>.*)")
+NOTE = re.compile(r"note: (?:\./)?(?P<path>src/[^:]+):(?P<row>\d+):\d+: it is not proved that (?P<what>.*)")
+GOAL = re.compile(r".* \(`(?P<goal>[^`]+)(?P<end>`\).*)?")
+ERROR = re.compile(r"(?:\./)?(?P<path>proofs/[^:]+):\d+:\d+: error: `(?P<fact>[^`]+)`: (?P<why>.*)")
 REFUSED = re.compile(
-    r"as printed, the two (types|sides) .*|computed as far as they go, the two types .*|expected type `.*"
-    r"|`omega`: the (goal|part `[^`]+` of the goal) does not follow .*|`search`: no proof of .*|`rw`: no (occurrence|part) of .*"
+    r"as printed, the two (types|sides) .*|computed as far as they go, the two types .*|expected (the )?type `.*"
+    r"|`omega`: the (goal|part `[^`]+` of the goal) does not follow .*|`(search|grind|simp|cc)`: no proof of .*|`rw`: no (occurrence|part) of .*"
     r"|give a proof of that as the last argument, `(simp|rw) L t` .*"
-)
-NO_PROOF = re.compile(
-    r"fn (?P<crate>\w+)::(?P<function>[\w:]+): no proof: expected `[^`]+` in .+; `search` does not close `(?P<fact>[^`]+)`(, `[^`]+`)*"
-)
-# what tells of no fact, or only that another one was refused
-PASSED_OVER = re.compile(
-    r" .*|(fn|struct|enum) \S+: proved|note: .*|[^`]+:\d+:\d+: note: .*"
-    r"|[^`]+:\d+:\d+: error: `[^`]+-spec`: `[^`]+` was not admitted .*|fn \S+: not proved; it calls .*"
 )
 
 INTRODUCTION = """\
 # Wrong programs
 
-An *edit*, crates/CRATE/must-fail/EDIT.edit, is a wrong program: a comment, and the texts to exchange in its crate. `rt ci` applies each to a copy of the crate, and fails unless the prover refuses every one. Where an edit's name ends in `agreed`, it changes the definition too, so that code and definition agree on something wrong, and a sample or a law must refuse it.
+An *edit*, crates/CRATE/must-fail/EDIT.edit, is a wrong program: a comment, and the texts to exchange in its crate. `rt ci` applies each to a copy of the crate, and fails unless the prover refuses every one; one that can't be applied or read fails `./test`. Where an edit's name ends in `agreed`, it changes the definition too, so that code and definition agree on something wrong, and a sample or a law must refuse it.
 
-*What it breaks* is the edit's comment: the rule that the program no longer keeps. *The fact that fails* is the first that the prover refuses, as the log has it: a function (or two that call each other, and are proved together) and a part of its proof, with the part's name; a law; or a sample. More may be refused after it.
+*What it breaks* is the edit's comment: the rule that the program no longer keeps. *The fact that fails* is the first that the prover refuses, as `rt ci` tells it: a function (or two that call each other, and are proved together) and a goal of its proof, by the prover's name for it; a law; or a sample. More may be refused after it.
 
-`rt must-fail CRATE` tries the edits of one crate; target/must-fail/CRATE/EDIT/ has the copy, and target/must-fail/CRATE/EDIT/.log what the prover said.
+`rt must-fail CRATE` tries the edits of one crate, and says of each what refused it.
 
-This file is made from the edits and their logs. Whoever adds an edit or changes one runs `rt must-fail CRATE` and `python3 tests/wrong_programs.py`; `./test` compares.
+This file is made from the edits and what rt says of them. Whoever adds an edit or changes one runs `python3 tests/wrong_programs.py`, which tries what changed; `./test` compares.
 """
 HEAD = "| Edit | What it breaks | The fact that fails |\n|---|---|---|\n"
 
@@ -74,7 +68,7 @@ class Wrong(Exception):
 
 
 class Missing(Exception):
-    """A log is missing, or out of date: exit status 2."""
+    """rt tells nothing of an edit, or not whether it is refused: exit status 2."""
 
 
 def shown(path):
@@ -87,7 +81,7 @@ def shown(path):
 def edit_files():
     """every edit's file, in the order of crates.txt, then by name"""
     lines = (TOP / "crates.txt").read_text(encoding="utf-8").split("\n")
-    order = [line.split(":")[0] for line in lines if ":" in line and not line.startswith("#")]
+    order = [line.split(":")[0].split()[0] for line in lines if ":" in line and not line.startswith("#")]
     files = list(TOP.glob("crates/*/must-fail/*.edit"))
     for file in files:
         if crate_of(file) not in order:
@@ -141,106 +135,124 @@ def edited(file, exchanges):
     return texts
 
 
-# ── logs
+# ── what rt says
 
 
-def copy_of(file):
-    return LOGS / crate_of(file) / file.stem
+def said_by_rt():
+    """what `rt must-fail` prints; it tries again only what changed"""
+    try:
+        return subprocess.run(["rt", "must-fail"], cwd=TOP, stdin=subprocess.DEVNULL, stdout=subprocess.PIPE, text=True).stdout
+    except FileNotFoundError:
+        raise Missing("the command rt is missing (README.md says what is needed)") from None
 
 
-def log_of(file):
-    return copy_of(file) / ".log"
-
-
-def look_for_logs(files):
-    missing = [log_of(file) for file in files if not log_of(file).is_file()]
-    if missing:
-        raise Missing(f"{len(missing)} of {len(files)} edits have no log (the first: {shown(missing[0])}): run `rt ci` or `rt must-fail`")
-
-
-def declaration(file, fact):
-    """the line in which a file of a proof, of laws or of samples states a fact; "" if it states none of that name"""
-    text = file.read_text(encoding="utf-8") if file.is_file() else ""
-    match = re.search(rf"^ *(pub )?{re.escape(fact)} : .*", text, re.MULTILINE)
-    return match[0] if match else ""
+def told_of(said):
+    """what rt says of each edit, by crate and name"""
+    found = {}
+    for line in said.split("\n"):
+        match = TOLD.fullmatch(line)
+        if match:
+            if match["what"] != found.setdefault((match["crate"], match["edit"]), match["what"]):
+                raise Wrong(f"rt tells two things of {match['crate']}/{match['edit']}: {line}")
+    return found
 
 
 def function_of(path):
     """the function whose proof a file is, or the functions of a cycle, `chain/+header_step+payload_step`; "" if it is no such file"""
-    match = re.fullmatch(r"proofs/(.+)/Proof\.antt", path)
+    match = re.fullmatch(r"proofs/(.+)/(Answers|Invariants|Proof)\.antt", path)
     if not match:
         return ""
     *modules, names = match[1].split("/")
     return "::".join([*modules, names.lstrip("+").replace("+", " and ")])
 
 
-def kind_of(file, path, fact):
-    """the kind of a fact that a file of the edit's copy states; "" if it isn't known"""
-    stated = declaration(copy_of(file) / path, fact)
-    if not stated or fact.endswith("-spec"):  # a function's whole proof is no fact of it
+def function_at(path, text, row):
+    """the function that a line of a source stands in, by its path in the crate; "" if it stands in none"""
+    modules = [] if path in ("src/lib.rt", "src/main.rt") else path.removeprefix("src/").removesuffix(".rt").split("/")
+    lines, block, began = text.split("\n"), "", 0
+    for number, line in enumerate(lines, 1):
+        impl = re.match(r"impl(?:<[^>]*>)? (?:[\w:<>]+ for )?(\w+)", line)
+        block = impl[1] if impl else "" if line == "}" else block
+        if not re.match(r" *(#\[|//)", line):
+            match = re.match(r'( *)(?:pub(?:\([a-z]+\))? )?(?:(?:const|unsafe|extern "C") )*fn (\w+)', line)
+            if match:
+                end = next(at for at, other in enumerate(lines[number - 1 :], number) if other == match[1] + "}" or at == number and other.endswith("}"))
+                if (began or number) <= row <= end:
+                    return "::".join([*modules, *([block] if block else []), match[2]])
+            began = 0
+        else:
+            began = began or number
+    return ""
+
+
+def in_words(goal, function):
+    for pattern, words in WORDS:
+        if re.fullmatch(pattern, goal):
+            return f"`{function}`: {words} (`{goal}`)"
+    return ""
+
+
+def declared_as(fact, text):
+    """how a file of a proof, of laws or of samples states a fact; "" if it states none of that name"""
+    match = re.search(rf"^ *(?:(?:pub|abbrev|unfoldable) )*{re.escape(fact)} :(.*)", text, re.MULTILINE)
+    return match[0] if match else ""
+
+
+def noted(match, texts):
+    """the fact of a note: a goal that the prover was to close by itself"""
+    function = function_at(match["path"], texts.get(match["path"], ""), int(match["row"]))
+    goal = GOAL.fullmatch(match["what"])
+    return in_words(goal["goal"], function) if function and goal and goal["end"] else ""
+
+
+def erred(match, texts, crate):
+    """the fact of an error in a file of proofs"""
+    path, fact = match["path"], match["fact"]
+    stated = declared_as(fact, texts.get(path, ""))
+    if not stated or not REFUSED.fullmatch(match["why"]):
         return ""
     if function_of(path):
-        need = re.search(r"\bNeed-[\w'-]+", stated)
-        return need[0] if need else "lemma"
+        goal = re.search(r": goal\.([\w'-]+)", stated)
+        return in_words(goal[1], function_of(path)) if goal else f"`{function_of(path)}`: a lemma of its proof (`{fact}`)"
     if re.fullmatch(r"proofs/\w+\.antt", path):
-        return "sample" if path == "proofs/Samples.antt" or crate_of(file) == "samples" else "law"
+        return f"{'sample' if path == 'proofs/Samples.antt' or crate == 'samples' else 'law'} `{fact}`"
     return ""
 
 
-def in_words(kind, function, fact):
-    for pattern, words in WORDS:
-        if re.fullmatch(pattern, kind):
-            return f"`{function}`: {words} (`{fact}`)" if function else f"{words} `{fact}`"
-    return ""
-
-
-def told(line, file):
-    """the fact that a line of the edit's log refuses, in words; "" if there are none for it"""
+def refused_fact(file, texts, told):
+    """the first fact that the prover refused, in words; texts are the crate's, with the edit"""
     crate = crate_of(file)
-    match = NO_PROOF.fullmatch(line)
-    if match and match["crate"] == crate:
-        return in_words("Need-" + match["fact"], match["function"], match["fact"])
+    what = told[crate, file.stem]
+    refused = AS_IT_MUST.fullmatch(what)
+    if not refused:
+        raise (Wrong if re.match("NOT REFUSED|BAD EDIT|refused", what) else Missing)(f"{shown(file)}: rt says: {what}")
+    line = refused["line"]
+    match = NOTE.fullmatch(line)
+    words = noted(match, texts) if match else ""
     match = ERROR.fullmatch(line)
-    if not match or match["edit"] != f"{crate}/{file.stem}" or not REFUSED.fullmatch(match["why"]):
-        return ""
-    path, fact = match["path"], match["fact"]
-    return in_words(kind_of(file, path, fact), function_of(path), fact)
-
-
-def refused_fact(file):
-    """the first fact that the prover refused, in words"""
-    log = log_of(file)
-    lines = log.read_text(encoding="utf-8").rstrip("\n").split("\n")
-    if lines[-1] != "logic=not-proved":
-        raise Wrong(f"{shown(log)}:{len(lines)}: not what ends the log of an edit that was refused: {lines[-1][:300]}")
-    for number, line in enumerate(lines, 1):
-        if PASSED_OVER.fullmatch(line):
-            continue
-        words = told(line, file)
-        if not words:
-            said = line.replace(f"{copy_of(file)}/", "")[:300]
-            raise Wrong(f"{shown(log)}:{number}: tests/wrong_programs.py has no words for this line: {said}")
-        return words
+    words = erred(match, texts, crate) if match else words
+    if not words:
+        raise Wrong(f"{shown(file)}: tests/wrong_programs.py has no words for what refuses it: {line}")
+    return words
 
 
 # ── the file
 
 
-def rows():
+def rows(told):
     """each edit's crate and its row"""
     edits = [(file, *read_edit(file)) for file in edit_files()]
-    wanted = [edited(file, exchanges) for file, _, exchanges in edits]
-    look_for_logs([file for file, _, _ in edits])
-    for (file, breaks, _), texts in zip(edits, wanted):
-        if sources(copy_of(file)) != texts:
-            raise Missing(f"{shown(log_of(file))} isn't of today's edit and crate: run `rt must-fail {crate_of(file)}`")
+    missing = [file for file, _, _ in edits if (crate_of(file), file.stem) not in told]
+    if missing:
+        raise Missing(f"rt tells nothing of {len(missing)} of {len(edits)} edits (the first: {shown(missing[0])})")
+    for file, breaks, exchanges in edits:
         breaks = breaks.replace("|", "\\|")
-        yield crate_of(file), f"| `{file.stem}` | {breaks} | {refused_fact(file)} |\n"
+        yield crate_of(file), f"| `{file.stem}` | {breaks} | {refused_fact(file, edited(file, exchanges), told)} |\n"
 
 
-def document():
+def document(told):
     text, last = INTRODUCTION, ""
-    for crate, row in rows():
+    for crate, row in rows(told):
         if crate != last:
             text += f"\n## {crate}\n\n{HEAD}"
         text += row
@@ -259,16 +271,19 @@ def check(made):
 
 
 def main(words):
-    if words not in ([], ["--check"]):
-        print("usage: wrong_programs.py [--check]")
+    checks = words[:1] == ["--check"]
+    files = words[checks:]
+    if len(files) > 1 or any(name.startswith("-") for name in files):
+        print("usage: wrong_programs.py [--check] [SAID]")
         return 2
     try:
-        made = document()
-        if words:
+        said = pathlib.Path(files[0]).read_text(encoding="utf-8") if files else said_by_rt()
+        made = document(told_of(said))
+        if checks:
             check(made)
         else:
             STORED.write_text(made, encoding="utf-8")
-        print(f"{shown(STORED)}: {made.count(chr(10) + '| `')} edits, {'as stored' if words else 'written'}")
+        print(f"{shown(STORED)}: {made.count(chr(10) + '| `')} edits, {'as stored' if checks else 'written'}")
     except (Wrong, Missing) as trouble:
         print(f"wrong_programs: {trouble}")
         return 1 if isinstance(trouble, Wrong) else 2
