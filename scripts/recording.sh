@@ -34,10 +34,15 @@ run() {
 
 # tell PROGRAM HINT [FILE]: what the program said, with the hint where the recording is too long, and the status to end in.
 tell() {
+    # Whoever read the output has gone. The program is told so, where another would be ended by a signal without a word.
+    if printf '%s\n' "$said" | grep -qx 'standard output: Broken pipe'; then
+        said=$(printf '%s\n' "$said" | sed '/^standard output: Broken pipe$/,$d')
+        status=141
+    fi
     case $#,$said in 3,'standard input: '*) said="$3: ${said#standard input: }" ;; esac
     [ -z "$said" ] || printf '%s\n' "$said" | sed "s/^/$command: /" >&2
     case $said in *'too long: '*) printf '%s: %s\n' "$command" "$2" >&2 ;; esac
-    # A program has no exit status of its own: whatever it says is a failure, but that there is no record.
+    # The programs end in 0 whatever they met: what they say is a failure, but that there is no record.
     failure=$(printf '%s\n' "$said" | grep -v '^no record found')
     case $status in
         0) [ -z "$failure" ] ;;

@@ -74,8 +74,8 @@ def built(name, made, *parts):
 
 
 def copied(made):
-    """The repository and what rt built; for everyone to read."""
-    left_out = {TOP: {".git"}, TOP / "rust": {"target"}, TOP / "target": {"must-fail", "goals"}}
+    """The repository and what ./build made, without rt's own work: rt begins with what it kept here. For everyone to read."""
+    left_out = {TOP: {".git"}, TOP / "rust": {"target"}, **{crate: {"out"} for crate in (TOP / "crates").iterdir()}}
     shutil.copytree(TOP, made / "copy", ignore=lambda folder, _: left_out.get(Path(folder), set()))
     run(["chmod", "-R", "a+rX", made])
     return made / "copy"
@@ -85,7 +85,7 @@ def tools_without(made, *missing):
     """A folder with every tool that the scripts call but those."""
     folder = made / f"without-{'-'.join(missing)}"
     folder.mkdir()
-    for tool in "sh sed dirname readlink find head tail tee mkdir touch date grep rm mktemp cat flock rt python3 gcc g++ nm cargo pkg-config".split():
+    for tool in "sh sed dirname basename readlink find head tail tee mkdir touch date grep rm mktemp cat cp mv cmp flock rt python3 gcc g++ nm cargo pkg-config".split():
         where = shutil.which(tool)
         if tool not in missing and where:
             (folder / tool).symlink_to(where)
