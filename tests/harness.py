@@ -18,6 +18,7 @@ from pathlib import Path
 TOP = Path(__file__).resolve().parent.parent
 NOBODY = 65534
 SECONDS = 120
+BUILDING = 3600  # seconds that a call may take which builds what rt hasn't kept
 PATIENCE = 120  # seconds that a line, an end or a setting may take, however busy the machine is; none of them takes so long
 
 IFLAG, OFLAG, CFLAG, LFLAG, ISPEED, OSPEED, CC = range(7)
