@@ -34,15 +34,11 @@ run() {
 
 # tell PROGRAM HINT [FILE]: what the program said, with the hint where the recording is too long, and the status to end in.
 tell() {
-    # Whoever read the output has gone. The program is told so, where another would be ended by a signal without a word.
-    if printf '%s\n' "$said" | grep -qx 'standard output: Broken pipe'; then
-        said=$(printf '%s\n' "$said" | sed '/^standard output: Broken pipe$/,$d')
-        status=141
-    fi
     case $#,$said in 3,'standard input: '*) said="$3: ${said#standard input: }" ;; esac
     [ -z "$said" ] || printf '%s\n' "$said" | sed "s/^/$command: /" >&2
     case $said in *'too long: '*) printf '%s: %s\n' "$command" "$2" >&2 ;; esac
-    # The programs end in 0 whatever they met: what they say is a failure, but that there is no record.
+    # A program ends in 0 whatever it met, or in 141 where whoever reads its output has gone: what it says is a failure, but that there is
+    # no record.
     failure=$(printf '%s\n' "$said" | grep -v '^no record found')
     case $status in
         0) [ -z "$failure" ] ;;
