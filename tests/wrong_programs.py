@@ -54,7 +54,7 @@ INTRODUCTION = """\
 
 An *edit*, crates/CRATE/must-fail/EDIT.edit, is a wrong program: a comment, and the texts to exchange in its crate. `rt ci` applies each to a copy of the crate, and fails unless the prover refuses every one; one that can't be applied or read fails `./test`. Where an edit's name ends in `agreed`, it changes the definition too, so that code and definition agree on something wrong, and a sample or a law must refuse it.
 
-*What it breaks* is the edit's comment: the rule that the program no longer keeps. *The fact that fails* is the first that the prover refuses, as `rt ci` tells it: a function (or two that call each other, and are proved together) and a goal of its proof, by the prover's name for it; a law; or a sample. More may be refused after it.
+*What it breaks* is the edit's comment: the rule that the program no longer keeps. *The fact that fails* is the first that the prover refuses, as `rt ci` tells it: a function and a goal of its proof, by the prover's name for it; a law; or a sample. More may be refused after it.
 
 `rt must-fail CRATE` tries the edits of one crate, and says of each what refused it.
 
@@ -158,12 +158,19 @@ def told_of(said):
 
 
 def function_of(path):
-    """the function whose proof a file is, or the functions of a cycle, `chain/+header_step+payload_step`; "" if it is no such file"""
+    """the function whose proof a file is, or the cycle of calls, chain/+from_section; "" if it is no such file"""
     match = re.fullmatch(r"proofs/(.+)/(Answers|Invariants|Proof)\.antt", path)
-    if not match:
-        return ""
-    *modules, names = match[1].split("/")
-    return "::".join([*modules, names.lstrip("+").replace("+", " and ")])
+    return match[1].replace("/+", "/").lstrip("+").replace("/", "::") if match else ""
+
+
+def in_cycle(goal, function, texts):
+    """the goal and its function where several call each other and are proved together: a goal's name begins with its function's then"""
+    for text in texts.values():
+        for cycle, name in re.findall(r"^#\[cycle\((\w+)\)\](?:\n#\[.*)*\n.*\bfn (\w+)", text, re.MULTILINE):
+            *modules, last = function.split("::")
+            if last in (cycle, name) and goal.startswith(f"{name}-"):
+                return goal.removeprefix(f"{name}-"), "::".join([*modules, name])
+    return goal, function
 
 
 def function_at(path, text, row):
@@ -185,7 +192,8 @@ def function_at(path, text, row):
     return ""
 
 
-def in_words(goal, function):
+def in_words(goal, function, texts):
+    goal, function = in_cycle(goal, function, texts)
     for pattern, words in WORDS:
         if re.fullmatch(pattern, goal):
             return f"`{function}`: {words} (`{goal}`)"
@@ -202,7 +210,7 @@ def noted(match, texts):
     """the fact of a note: a goal that the prover was to close by itself"""
     function = function_at(match["path"], texts.get(match["path"], ""), int(match["row"]))
     goal = GOAL.fullmatch(match["what"])
-    return in_words(goal["goal"], function) if function and goal and goal["end"] else ""
+    return in_words(goal["goal"], function, texts) if function and goal and goal["end"] else ""
 
 
 def erred(match, texts, crate):
@@ -213,7 +221,7 @@ def erred(match, texts, crate):
         return ""
     if function_of(path):
         goal = re.search(r": goal\.([\w'-]+)", stated)
-        return in_words(goal[1], function_of(path)) if goal else f"`{function_of(path)}`: a lemma of its proof (`{fact}`)"
+        return in_words(goal[1], function_of(path), texts) if goal else f"`{function_of(path)}`: a lemma of its proof (`{fact}`)"
     if re.fullmatch(r"proofs/\w+\.antt", path):
         return f"{'sample' if path == 'proofs/Samples.antt' or crate == 'samples' else 'law'} `{fact}`"
     return ""
