@@ -52,8 +52,8 @@ pub fn read_input<R: Input + Eprint>(rt: &R, input: &mut [u8]) -> usize
     size
 }
 
-// Waits until the bytes of a file are on its disk, since a full disk may be found out late. What is no file, or can't be opened once more,
-// is let be.
+// Waits until the bytes of a file are on its disk, since a full disk may be found out late. What is no file, can't be opened once more, or
+// has nothing to wait for is let be.
 fn sync_output(rt: &HostRuntime) -> Result<()> {
     let is_file = match fs::metadata(rt, "/dev/stdout") {
         Ok(found) => found.is_file(),
@@ -62,9 +62,12 @@ fn sync_output(rt: &HostRuntime) -> Result<()> {
     if !is_file {
         return Ok(());
     }
-    match OpenOptions::new().append(true).open(rt, "/dev/stdout") {
-        Ok(file) => file.sync_data(),
-        Err(_) => Ok(()),
+    let Ok(file) = OpenOptions::new().append(true).open(rt, "/dev/stdout") else {
+        return Ok(());
+    };
+    match file.sync_data() {
+        Err(e) if e.kind() == ErrorKind::InvalidInput => Ok(()),
+        synced => synced,
     }
 }
 
