@@ -5,7 +5,7 @@
  * Memory. No heap, no globals, nothing kept between calls: every function may be called from several threads and from
  * signal handlers at once. What must be remembered, a receiver and its memory, a table of slaves and its figures, a
  * sender and its queue, is the caller's. The archive needs nothing from outside. Stack: at most 256 bytes a call, but up
- * to 6,400 in the four section functions, which call themselves once a section: 48 bytes each, 127 sections at most.
+ * to 6,400 in the four section functions, which call themselves once a section: up to 48 bytes each, 127 at most.
  * tests/stack in the repository measures it.
  *
  * Pointers and owners. This is the caller's to keep; no function can check it:
