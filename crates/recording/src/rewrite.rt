@@ -32,7 +32,7 @@ fn one(stream: &[u8], unused: u8, out: &mut [u8])
     requires { OneStream stream.now unused (length out.old) }
     ensures { out.new ≡ over (stream_of (record_of stream.now)) out.old }
 {
-    out[..stream.len()].copy_from_slice(stream);
+    basics::copy(stream, out);
     if unused != 0 {
         clear::stream(out);
     }

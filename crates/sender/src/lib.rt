@@ -202,7 +202,7 @@ pub fn enqueue(sender: Sender, queue: &mut [u8; 772], bytes: &[u8]) -> Sent
     if 772 < bytes.len() {
         return without(25, sender);
     }
-    queue[..bytes.len()].copy_from_slice(bytes);
+    basics::copy(bytes, &mut queue[..]);
     let mut after = sender;
     after.queued = bytes.len();
     after.sent = 0;
@@ -228,7 +228,7 @@ pub fn transmit(sender: Sender, queue: &[u8; 772], out: &mut [u8]) -> Sent
     let from = sender.sent;
     let end = from + size;
     let all = &queue[..];
-    out[..size].copy_from_slice(&all[from..end]);
+    basics::copy(&all[from..end], out);
     let mut after = sender;
     after.energy = energy_after_portion(sender.settings, size);
     after.sent = end;

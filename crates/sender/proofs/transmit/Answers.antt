@@ -2,8 +2,7 @@
 use mathlib.Core.Path.{◌≡◌, sym, ap, ◌∙◌}
 use native.Mathlib.Omega.{arith}
 use lib.ListN.{length, take, drop}
-use Rattle.std.proofs.lemmas.List.{length-take-le}
-use mathlib.Core.List.{List, ◌++◌}
+use mathlib.Core.List.{List}
 use Prim.Native.Nat.{ℕ, ◌+◌, ◌-◌, ◌<◌, ◌≤◌}
 use Rattle.basics.specs.Choice.{choose}
 use Rattle.basics.specs.Bytes.{over}
@@ -12,10 +11,6 @@ use Rattle.sender.specs.Answer.{transmit_refusal, transmitted}
 use Rattle.sender.proofs.Portion.{size-within, paid, unsent-within, portion-there}
 use Rattle.sender.proofs.Answers.{refused-with, accepted-with, transmit-19, transmit-5, transmit-accepted, transmitted-none, transmitted-some}
 use Rattle.sender.proofs.transmit.Goals as goal
-
--- a list at the start of another, written there by its length
-placed : (p l q : List ℕ) (n : ℕ) → q ≡ p → length p ≡ n → q ++ drop n l ≡ over p l
-placed p l q n e k = rw (e, ← k)
 
 pub returns-then-settings_refused : goal.returns-then-settings_refused
 returns-then-settings_refused c =
@@ -51,8 +46,8 @@ overflow_add-end c =
     let size = c.portion_size-size.ensures in
     omega (arith, portion-there c.args.sender (omega arith))
 
-pub slice_bounds-copy_from_slice-end-3 : goal.slice_bounds-copy_from_slice-end-3
-slice_bounds-copy_from_slice-end-3 c =
+pub slice_bounds-copy-end : goal.slice_bounds-copy-end
+slice_bounds-copy-end c =
     let size = c.portion_size-size.ensures in
     omega (arith, portion-there c.args.sender (omega arith))
 
@@ -74,9 +69,8 @@ returns c =
     let e = transmit-accepted s (length out) (sym c.settings_refused.ensures ∙ c.if-settings_refused.false) room in
     let called = accepted-with (transmit_refusal s (length out)) (portion_size s) (transmitted s (portion_size s)) s (portion s queue) out e in
     let part : s.sent + c.portion_size-size.result - s.sent ≡ portion_size s = omega (arith, size) in
-    let copied : c.copy_from_slice.new.self ≡ portion s queue = c.copy_from_slice.ensures.after ∙ ap (λ (n : ℕ). take n (drop s.sent queue)) part in
-    let long : length (portion s queue) ≡ c.portion_size-size.result = sym (ap length copied) ∙ c.copy_from_slice.ensures.len ∙ length-take-le _ out c.if-out-size.false in
+    let copied : take (s.sent + c.portion_size-size.result - s.sent) (drop s.sent queue) ≡ portion s queue = ap (λ (n : ℕ). take n (drop s.sent queue)) part in
     record {
       value = rw (← called.0, transmitted-some s (portion_size s) some, ← size, c.energy_after_portion.ensures);
-      out_after = placed (portion s queue) out _ _ copied long ∙ called.1;
+      out_after = c.copy.ensures.out_after ∙ ap (λ (q : List ℕ). over q out) copied ∙ called.1;
     }
