@@ -67,6 +67,14 @@ Fed before h chunk out answer out' memory' =
     (answer ≡ accepted_of before (outcome_of h chunk))
     × ((out' ≡ over (payload_of (completed_in before (outcome_of h chunk))) out) × (take answer.receiver.held memory' ≡ (outcome_of h chunk).held))
 
+-- an answer with its own length
+pub same-length : (a : Received) (n : ℕ) → a.length ≡ n
+    → record { number = a.number; found = a.found; used = a.used; position = a.position; length = n; header = a.header; payload_length = a.payload_length; receiver = a.receiver } ≡ a
+same-length a n e =
+    ap
+    (λ (m : ℕ). record { number = a.number; found = a.found; used = a.used; position = a.position; length = m; header = a.header; payload_length = a.payload_length; receiver = a.receiver })
+    (sym e)
+
 module _ {before : ℕ} {h chunk out₀ memory out : List ℕ} {u : Unfinished} {used : ℕ} (at : FeedAt before h chunk out₀ memory out u used) where
   -- ── one byte
 
@@ -152,6 +160,12 @@ module _ {before : ℕ} {h chunk out₀ memory out : List ℕ} {u : Unfinished} 
         -- an answer finds a record exactly if the stream is whole
         exactly : (found.found ≡ true) ↔ Whole s
         exactly = rw told_of (decode-exactly s (length out) room)
+
+        -- what is found is as long as what is held
+        pub found-long : found.found ≡ true → found.length ≡ u'.held
+        found-long is_found =
+            let w = exactly.0 is_found in
+            rw (told_of, decoded-room s (length out) room, beginning-whole 0 s w) ((whole-clean s w).offset ∙ full-took.long)
 
         pub feed-faulty : found.found ≡ false → FeedAt before h chunk out₀ after out' (record { held = 0; least = 6 }) (used + 1)
         feed-faulty unfound =

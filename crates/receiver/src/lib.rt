@@ -96,7 +96,10 @@ fn feed(receiver: Receiver, memory: &mut [u8], chunk: &[u8], out: &mut [u8]) -> 
             let found = recording::decode(&memory[0..held], out);
             if found.found {
                 let end = receiver.position + used as u64;
-                return delivered(found, end - held as u64, used, end);
+                let mut answer = delivered(found, end - held as u64, used, end);
+                // `found.length` is that too. Read from there, it would go with the header through a register that has to be kept on the stack.
+                answer.length = held;
+                return answer;
             }
             state = buffer::nothing();
         }
