@@ -28,7 +28,7 @@ fn main(rt: HostRuntime) -> ExitCode {
     let mut input = [0u8; MOST + 1];
     let size = stdio::read_input(&rt, &mut input);
     if !print_explanation(&rt, &input[..size]) {
-        return stdio::reader_gone();
+        return ExitCode::from(stdio::READER_GONE);
     }
     if size > MOST {
         stdio::tell_too_long(&rt);

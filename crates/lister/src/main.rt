@@ -12,7 +12,7 @@ fn main(rt: HostRuntime) -> ExitCode {
     let written = listing::list(&input[..size], &mut out);
     let length = written.length;
     if !stdio::write_output(&rt, listing::written_text(&out, written)) {
-        return stdio::reader_gone();
+        return ExitCode::from(stdio::READER_GONE);
     }
     if size > MOST {
         stdio::tell_too_long(&rt);

@@ -68,12 +68,8 @@ Fed before h chunk out answer out' memory' =
     × ((out' ≡ over (payload_of (completed_in before (outcome_of h chunk))) out) × (take answer.receiver.held memory' ≡ (outcome_of h chunk).held))
 
 -- an answer with its own length
-pub same-length : (a : Received) (n : ℕ) → a.length ≡ n
-    → record { number = a.number; found = a.found; used = a.used; position = a.position; length = n; header = a.header; payload_length = a.payload_length; receiver = a.receiver } ≡ a
-same-length a n e =
-    ap
-    (λ (m : ℕ). record { number = a.number; found = a.found; used = a.used; position = a.position; length = m; header = a.header; payload_length = a.payload_length; receiver = a.receiver })
-    (sym e)
+same-length : (a : Received) (n : ℕ) → a.length ≡ n → record a { length = n } ≡ a
+same-length a n e = ap (λ (m : ℕ). record a { length = m }) (sym e)
 
 module _ {before : ℕ} {h chunk out₀ memory out : List ℕ} {u : Unfinished} {used : ℕ} (at : FeedAt before h chunk out₀ memory out u used) where
   -- ── one byte
@@ -162,7 +158,7 @@ module _ {before : ℕ} {h chunk out₀ memory out : List ℕ} {u : Unfinished} 
         exactly = rw told_of (decode-exactly s (length out) room)
 
         -- what is found is as long as what is held
-        pub found-long : found.found ≡ true → found.length ≡ u'.held
+        found-long : found.found ≡ true → found.length ≡ u'.held
         found-long is_found =
             let w = exactly.0 is_found in
             rw (told_of, decoded-room s (length out) room, beginning-whole 0 s w) ((whole-clean s w).offset ∙ full-took.long)
@@ -184,6 +180,16 @@ module _ {before : ℕ} {h chunk out₀ memory out : List ℕ} {u : Unfinished} 
             let written : out' ≡ over (record_of s).payload out₀ =
             left-of ∙ output-room s out room ∙ ap (λ (ds : List Delivery). over (payload_of ds) out) here ∙ ap (over (record_of s).payload) at.output in
             rw (o, told_of, decoded-room s (length out) room, here, there, full-long) (refl, (written, refl))
+
+        -- the same of the answer whose length is that of what is held
+        pub feed-held : found.found ≡ true
+            → Fed before h chunk out₀
+            (record (answer_of (found_at (before + (used + 1) - u'.held) found) (used + 1) (record { held = 0; position = before + (used + 1) })) { length = u'.held })
+            out'
+            after
+        feed-held is_found =
+            let (value, left_there) = feed-found is_found in
+            (same-length _ _ (found-long is_found) ∙ value, left_there)
 
   pub feed-ends : used ≡ length chunk → Fed before h chunk out₀ (answer_of (without 0) used (record { held = u.held; position = before + used })) out memory
   unfolding outcome_of

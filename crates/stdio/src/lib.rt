@@ -8,7 +8,9 @@ use std::fs;
 use std::fs::OpenOptions;
 use std::io::{Eprint, Error, ErrorKind, Input, Print, Read, Result, Write};
 use std::os::fd::AsFd;
-use std::process::ExitCode;
+
+// The status where nobody reads the output any more: what a shell gives for the signal SIGPIPE, which std holds back.
+pub const READER_GONE: u8 = 141;
 
 // Tells why a stream couldn't be read or written: its name and the system's words, without the number that std puts behind these.
 fn tell(rt: &impl Eprint, stream: &str, error: Error) {
@@ -88,11 +90,6 @@ pub fn write_output(rt: &HostRuntime, text: &[u8]) -> bool {
             true
         }
     }
-}
-
-// The status where nobody reads the output any more: what a shell gives for the signal SIGPIPE, which std holds back.
-pub fn reader_gone() -> ExitCode {
-    ExitCode::from(141)
 }
 
 pub fn tell_too_long(rt: &impl Eprint) {

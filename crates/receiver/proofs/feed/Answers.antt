@@ -1,9 +1,9 @@
 -- `receiver::feed` meets its contract: what is to come of the bytes from here on is what was to come of all of them. Assumes nothing.
 use native.Mathlib.Omega.{arith}
 use native.Mathlib.Nat.{sub-zero}
-use mathlib.Core.Path.{ap, ◌∙◌}
+use mathlib.Core.Path.{ap}
 use lib.ListN.{length}
-use Rattle.receiver.proofs.Looping.{feed-starts, feed-on, feed-faulty, feed-found, feed-ends, full-within, full-counted, found-long, same-length}
+use Rattle.receiver.proofs.Looping.{feed-starts, feed-on, feed-faulty, feed-held, feed-ends, full-within, full-counted}
 use Rattle.receiver.proofs.feed.Goals as goal
 
 pub loop-used-init : goal.loop-used-init
@@ -40,9 +40,8 @@ returns-then-found c =
     let took = c.take_byte-state in
     let loop = c.loop-used in
     let (value, (out_after, memory_after)) =
-    feed-found loop.invariant (omega (arith, c.loop-used-test)) took.new.memory (omega (arith, took.auto.memory, loop.invariant.size)) took.result took.ensures c.if-held-state.true (omega (arith, c.requires.1, ap length loop.invariant.output)) decode.result decode.new.out (rw sub-zero at decode.ensures.value) (rw sub-zero at decode.ensures.out_after) c.if-found.true in
-    let long = found-long loop.invariant (omega (arith, c.loop-used-test)) took.new.memory (omega (arith, took.auto.memory, loop.invariant.size)) took.result took.ensures c.if-held-state.true (omega (arith, c.requires.1, ap length loop.invariant.output)) decode.result decode.new.out (rw sub-zero at decode.ensures.value) (rw sub-zero at decode.ensures.out_after) c.if-found.true in
-    rw c.delivered-answer.ensures (record { value = same-length _ _ long ∙ value; out_after = out_after; memory_after = memory_after })
+    feed-held loop.invariant (omega (arith, c.loop-used-test)) took.new.memory (omega (arith, took.auto.memory, loop.invariant.size)) took.result took.ensures c.if-held-state.true (omega (arith, c.requires.1, ap length loop.invariant.output)) decode.result decode.new.out (rw sub-zero at decode.ensures.value) (rw sub-zero at decode.ensures.out_after) c.if-found.true in
+    rw c.delivered-answer.ensures (record { value = value; out_after = out_after; memory_after = memory_after })
 
 pub loop-used-preserved-then-held-state : goal.loop-used-preserved-then-held-state
 loop-used-preserved-then-held-state c =
