@@ -1,5 +1,5 @@
 -- Laws of a buffer that is written to from its start, and of the parts that are lent for it.
-use Prim.Native.Nat.{ℕ, suc, ◌+◌, ◌-◌, ◌<◌}
+use Prim.Native.Nat.{ℕ, suc, ◌+◌, ◌-◌, ◌<◌, ◌≤◌}
 use native.Mathlib.Omega.{arith}
 use native.Mathlib.Numerals.{add-one}
 use mathlib.Core.Path.{◌≡◌, ap, ◌∙◌}
@@ -21,6 +21,13 @@ over-over p q l =
 -- a list over what follows another
 pub over-behind : (p q l : List ℕ) → p ++ over q (drop (length p) l) ≡ over (p ++ q) l
 over-behind p q l = rw (drop-drop, append_assoc, length-append)
+
+-- of a list that fits all is counted, and written
+pub all-counted : (p l : List ℕ) (n : ℕ) → n ≡ length (take (length l) p) → length p ≤ length l → n ≡ length p
+all-counted p l n e fits = e ∙ ap length (take_all (length l) p fits)
+
+pub all-written : (p l new : List ℕ) → new ≡ over (take (length l) p) l → length p ≤ length l → new ≡ over p l
+all-written p l new e fits = e ∙ ap (λ (q : List ℕ). over q l) (take_all (length l) p fits)
 
 -- the part from a on is all that follows
 pub part : (l : List ℕ) (a : ℕ) → take (length l - a) (drop a l) ≡ drop a l

@@ -2,7 +2,7 @@
 // writes to a lent output, and the writing of bytes to its start.
 #![tactic(auto)]
 
-ghost use Rattle.std.specs.Prelude.{◌≡◌, ◌≤◌, length};
+ghost use Rattle.std.specs.Prelude.{◌≡◌, length, take};
 ghost use Rattle.basics.specs.Bytes.{over};
 
 // How many bytes were written, or a refusal's number and zero.
@@ -13,17 +13,17 @@ pub struct Written {
     pub length: usize,
 }
 
-// Writes `bytes` to the start of `out`, and returns how many they are. std's `copy_from_slice` would call the C library's memmove, and the
-// archive is to need nothing from outside.
+// Writes `bytes` to the start of `out`, as many of them as it holds, and returns how many these are. std's `copy_from_slice` would call the C
+// library's memmove, and the archive is to need nothing from outside.
 pub fn copy(bytes: &[u8], out: &mut [u8]) -> usize
-    requires { length bytes.now ≤ length out.old }
-    ensures value { result ≡ length bytes.now }
-    ensures out_after { out.new ≡ over bytes.now out.old }
+    ensures value { result ≡ length (take (length out.old) bytes.now) }
+    ensures out_after { out.new ≡ over (take (length out.old) bytes.now) out.old }
 {
+    let count = bytes.len().min(out.len());
     let mut i = 0;
-    while i < bytes.len() {
+    while i < count {
         out[i] = bytes[i];
         i += 1;
     }
-    bytes.len()
+    count
 }

@@ -7,6 +7,7 @@ use Rattle.basics.specs.Choice.{choose}
 use Rattle.basics.specs.declared.Written.{Written}
 use Rattle.explanation.specs.Explanation.{explain_refusal}
 use Rattle.explanation.proofs.Room.{explanation-room}
+use Rattle.basics.proofs.Over.{all-counted, all-written}
 use Rattle.explanation.proofs.explain.Goals as goal
 
 abbrev answer : ℕ → Written
@@ -20,7 +21,7 @@ pub returns-then-input-gt-MOST : goal.returns-then-input-gt-MOST
 unfolding choose explain_refusal
 returns-then-input-gt-MOST c =
     rw (le-ltb _ _ c.if-out-lt-ROOM.false, lt-ltb _ _ c.if-input-gt-MOST.true)
-    (record { value = ap answer c.copy.ensures.value; out_after = c.copy.ensures.out_after })
+    (record { value = ap answer (all-counted _ c.args.out.now _ c.copy.ensures.value (omega arith)); out_after = all-written _ c.args.out.now _ c.copy.ensures.out_after (omega arith) })
 
 pub lines-requires : goal.lines-requires
 lines-requires c = omega (arith, explanation-room c.args.input.now (omega arith))

@@ -3,12 +3,13 @@ use Prim.Native.Nat.{ℕ, ◌≤◌, ◌<◌}
 use native.Mathlib.Omega.{arith}
 use native.Mathlib.Nat.{sub-zero}
 use mathlib.Core.Path.{◌≡◌, ap, ◌∙◌, sym}
-use lib.ListN.{length}
+use lib.ListN.{length, length-take}
 use lib.Seq.{length-take-le}
 use mathlib.Core.List.{List}
 use Rattle.basics.specs.Bytes.{over}
 use Rattle.basics.proofs.Output.{answered-short, answered-fits, output-kept, output-written}
 use Rattle.explanation.specs.Line.{line_of}
+use Rattle.basics.proofs.Over.{all-written}
 use Rattle.explanation.proofs.line.Goals as goal
 
 pub returns-then-out-length : goal.returns-then-out-length
@@ -28,7 +29,7 @@ returns c =
     record {
       value = sym (answered-fits line (length out) fits ∙ ap (λ (n : ℕ). record { number = 0; length = n }) size);
       out_after =
-          rw sub-zero at c.copy.ensures.out_after
+          all-written _ out _ (rw sub-zero at c.copy.ensures.out_after) (omega (arith, length-take c.line-length.result c.line-length.new.out))
           ∙ ap (λ (l : List ℕ). over l out) c.line-length.ensures.begins
           ∙ sym (output-written line out fits);
     }

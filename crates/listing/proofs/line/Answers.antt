@@ -1,11 +1,12 @@
 -- `line` meets its contract: what is written piece by piece is the line, and its length is known before. Assumes nothing.
-use Prim.Native.Nat.{ℕ, ◌+◌, ◌<◌, ◌≤◌}
+use Prim.Native.Nat.{ℕ, ◌+◌, ◌-◌, ◌<◌, ◌≤◌}
+use borrow.Author.Rules.{rules}
 use native.Mathlib.Omega.{arith}
 use mathlib.Core.Path.{◌≡◌, ap, ◌∙◌, sym}
 use mathlib.Core.List.{List, ◌++◌}
-use lib.ListN.{length, length-append}
+use lib.ListN.{length, take, drop, length-append}
 use Rattle.basics.specs.Bytes.{over}
-use Rattle.basics.proofs.Over.{lent}
+use Rattle.basics.proofs.Over.{lent, all-written}
 use Rattle.basics.proofs.Output.{answered-short, answered-fits, output-kept, output-written}
 use Rattle.text.specs.Ascii.{ascii}
 use Rattle.record.specs.Record.{Record}
@@ -64,11 +65,15 @@ returns c =
     let end : length (digits ++ hex_payload r.payload) ≡ c.head_length-head.result + c.payload_text_length.result =
     omega (arith, length-append digits (hex_payload r.payload), head, c.payload_text_length.ensures) in
     let fits : length (line_of r) ≤ length out = omega arith in
+    let before = c.head.new.out in
+    let at = c.head_length-head.result in
+    let behind = at + c.payload_text_length.result in
+    let written = take at before ++ (c.payload.new.out ++ drop (length before - at) (drop at before)) in
     record {
       value = sym (answered-fits (line_of r) (length out) fits ∙ ap (λ (n : ℕ). record { number = 0; length = n }) size);
       out_after =
           lent (digits ++ hex_payload r.payload) (ascii "\n") out _ _ _ end
-          (lent digits (hex_payload r.payload) out _ _ _ head c.head.ensures c.payload.ensures) c.copy.ensures.out_after
+          (lent digits (hex_payload r.payload) out _ _ _ head c.head.ensures c.payload.ensures) (all-written _ (take (length written - behind) (drop behind written)) _ c.copy.ensures.out_after (search rules))
           ∙ ap (λ (l : List ℕ). over l out) (sym (line_as K r c.kind_of-kind.ensures))
           ∙ sym (output-written (line_of r) out fits);
     }

@@ -4,6 +4,7 @@ use native.Mathlib.Omega.{arith}
 use lib.ListN.{length}
 use Rattle.sender.specs.Answer.{enqueue_refusal, enqueued}
 use Rattle.sender.proofs.Answers.{refused-with, accepted-with, enqueue-19, enqueue-20, enqueue-25, enqueue-accepted}
+use Rattle.basics.proofs.Over.{all-written}
 use Rattle.sender.proofs.enqueue.Goals as goal
 
 pub returns-then-settings_refused : goal.returns-then-settings_refused
@@ -36,4 +37,4 @@ returns c =
     let n = length a.bytes.now in
     let e = enqueue-accepted a.sender n (sym c.settings_refused.ensures ∙ c.if-settings_refused.false) (sym c.is_idle.ensures ∙ c.if-not-is_idle.false) c.if-bytes-gt772.false in
     let called = accepted-with (enqueue_refusal a.sender n) 0 (enqueued a.sender n) a.sender a.bytes.now a.queue.now e in
-    record { value = c.without-2.ensures ∙ called.0; queue_after = c.copy.ensures.out_after ∙ called.1 }
+    record { value = c.without-2.ensures ∙ called.0; queue_after = all-written a.bytes.now a.queue.now _ c.copy.ensures.out_after (omega arith) ∙ called.1 }

@@ -10,6 +10,7 @@ use Rattle.sender.specs.Queue.{portion_size, portion}
 use Rattle.sender.specs.Answer.{transmit_refusal, transmitted}
 use Rattle.sender.proofs.Portion.{size-within, paid, unsent-within, portion-there}
 use Rattle.sender.proofs.Answers.{refused-with, accepted-with, transmit-19, transmit-5, transmit-accepted, transmitted-none, transmitted-some}
+use Rattle.basics.proofs.Over.{all-written}
 use Rattle.sender.proofs.transmit.Goals as goal
 
 pub returns-then-settings_refused : goal.returns-then-settings_refused
@@ -72,5 +73,5 @@ returns c =
     let copied : take (s.sent + c.portion_size-size.result - s.sent) (drop s.sent queue) ≡ portion s queue = ap (λ (n : ℕ). take n (drop s.sent queue)) part in
     record {
       value = rw (← called.0, transmitted-some s (portion_size s) some, ← size, c.energy_after_portion.ensures);
-      out_after = c.copy.ensures.out_after ∙ ap (λ (q : List ℕ). over q out) copied ∙ called.1;
+      out_after = all-written _ out _ c.copy.ensures.out_after (omega arith) ∙ ap (λ (q : List ℕ). over q out) copied ∙ called.1;
     }

@@ -4,13 +4,9 @@ use Prim.Native.Nat.{ℕ}
 use mathlib.Core.Path.{refl, ap, ◌∙◌}
 use mathlib.Core.List.{List}
 use Rattle.basics.specs.Bytes.{over}
-use Rattle.basics.proofs.Over.{lent}
+use Rattle.basics.proofs.Over.{lent, all-written}
 use Rattle.listing.specs.Line.{hex_command, spaced, hex_fields, hex_head}
 use Rattle.listing.proofs.write.head.Goals as goal
-
-pub copy-requires : goal.copy-requires
-unfolding hex_head
-copy-requires c = omega arith
 
 pub slice_bounds-command-count : goal.slice_bounds-command-count
 unfolding hex_head
@@ -29,4 +25,4 @@ unfolding hex_head
 returns c =
     let a = c.args in
     lent (hex_fields a.kind a.header) (spaced (hex_command a.kind a.header.command)) a.out.now _ _ 14 refl
-    (c.copy.ensures.out_after ∙ ap (λ (l : List ℕ). over l a.out.now) c.fields.ensures) c.command.ensures
+    (all-written _ a.out.now _ c.copy.ensures.out_after (omega arith) ∙ ap (λ (l : List ℕ). over l a.out.now) c.fields.ensures) c.command.ensures

@@ -7,7 +7,7 @@ use mathlib.Core.List.{List}
 use lib.ListN.{length, take, drop, get_or}
 use lib.Seq.{take_all, length-take-le}
 use Rattle.basics.specs.Bytes.{over}
-use Rattle.basics.proofs.Over.{lent}
+use Rattle.basics.proofs.Over.{lent, all-written}
 use Rattle.text.specs.Hex.{hex_byte}
 use Rattle.listing.specs.Line.{hex_bytes}
 use Rattle.listing.proofs.Lines.{length-bytes_hex, bytes_hex-take}
@@ -24,11 +24,12 @@ loop-i-preserved c =
     let bytes = c.args.bytes.now in
     let inside : loop.i < length bytes = omega arith in
     let done = hex_bytes (take loop.i bytes) in
+    let part = take (length loop.out - 2 * loop.i) (drop (2 * loop.i) loop.out) in
     let passed : length done ≡ 2 * loop.i = length-bytes_hex (take loop.i bytes) ∙ rw (length-take-le loop.i bytes (omega arith)) in (
       omega arith,
       rw (add-one, bytes_hex-take bytes loop.i inside)
           (lent done (hex_byte (get_or bytes loop.i 0)) out loop.out c.copy.new.out (2 * loop.i) passed
-          loop.invariant.1 (c.copy.ensures.out_after ∙ ap (λ (l : List ℕ). over l (take (length loop.out - 2 * loop.i) (drop (2 * loop.i) loop.out))) c.hex_byte.ensures)),
+          loop.invariant.1 (all-written _ part _ c.copy.ensures.out_after (omega arith) ∙ ap (λ (l : List ℕ). over l part) c.hex_byte.ensures)),
       omega arith,
     )
 

@@ -6,23 +6,24 @@ use Rattle.basics.specs.Bytes.{over}
 use Rattle.record.specs.Record.{record_of, stream_of}
 use Rattle.recording.proofs.Deliveries.{Whole}
 use Rattle.recording.proofs.Clearing.{copy-whole, copy-same, copy-cleared}
+use Rattle.basics.proofs.Over.{all-written}
 use Rattle.recording.proofs.rewrite.one.Goals as goal
 
 pub stream-requires : goal.stream-requires
 stream-requires c =
     let s = c.args.stream.now in
     let out = c.args.out.now in
-    subst⁻¹ Whole c.copy.ensures.out_after (copy-whole s out c.requires.whole)
+    subst⁻¹ Whole (all-written s out _ c.copy.ensures.out_after c.requires.held) (copy-whole s out c.requires.whole)
 
 pub returns-then-unused-ne0 : goal.returns-then-unused-ne0
 returns-then-unused-ne0 c =
     let s = c.args.stream.now in
     let out = c.args.out.now in
-    let is = c.copy.ensures.out_after in
+    let is = (all-written s out _ c.copy.ensures.out_after c.requires.held) in
     c.stream.ensures ∙ ap (λ (l : List ℕ). over (stream_of (record_of l)) l) is ∙ copy-cleared s out c.requires.whole c.requires.sized
 
 pub returns-else-unused-ne0 : goal.returns-else-unused-ne0
 returns-else-unused-ne0 c =
     let s = c.args.stream.now in
     let out = c.args.out.now in
-    c.copy.ensures.out_after ∙ copy-same s out c.requires.whole c.requires.sized (sym c.requires.counted ∙ c.if-unused-ne0.false)
+    (all-written s out _ c.copy.ensures.out_after c.requires.held) ∙ copy-same s out c.requires.whole c.requires.sized (sym c.requires.counted ∙ c.if-unused-ne0.false)
