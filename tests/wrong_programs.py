@@ -45,7 +45,7 @@ GOAL = re.compile(r".* \(`(?P<goal>[^`]+)(?P<end>`\).*)?")
 ERROR = re.compile(r"(?:\./)?(?P<path>proofs/[^:]+):\d+:\d+: error: `(?P<fact>[^`]+)`: (?P<why>.*)")
 REFUSED = re.compile(
     r"as printed, the two (types|sides) .*|computed as far as they go, the two types .*|expected (the )?type `.*"
-    r"|`omega`: the (goal|part `[^`]+` of the goal) does not follow .*|`(search|grind|simp|cc)`: no proof of .*|`rw`: no (occurrence|part) of .*"
+    r"|`omega`: the (goal|part `[^`]+` of the goal) does not follow .*|`(search|grind|simp|cc)`: no proof of .*|`grind` found no proof[.,] .*|`rw`: no (occurrence|part) of .*"
     r"|give a proof of that as the last argument, `(simp|rw) L t` .*"
 )
 

@@ -2,5 +2,5 @@ pub mod Choice
 pub mod Table
 pub mod Bytes
 pub mod Over
-pub mod Signed
 pub mod Output
+pub mod Refusals

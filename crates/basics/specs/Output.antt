@@ -1,8 +1,10 @@
 -- What is answered by a function that only writes to a lent output, and what a lent output holds afterwards.
-use Rattle.std.specs.Prelude.{ℕ, Bool, List, [], ◌∷◌, ltb, eqb, length}
+use Rattle.std.specs.Prelude.{ℕ, Bool, List, [], ◌∷◌, ltb, eqb, length, Result, Ok, Err}
 use Rattle.basics.specs.Bytes.{over}
 use Rattle.basics.specs.Choice.{choose, first}
+use Rattle.basics.specs.Refusal.{number}
 use Rattle.basics.specs.declared.Written.{Written}
+use Rattle.basics.specs.declared.refusal.Refusal.{Refusal}
 
 -- the table's line 5: the output is shorter than this call's result needs
 abbrev pub too_short : ℕ → List ℕ → Bool × ℕ
@@ -25,3 +27,8 @@ answered_for result room = answered (room_refusal result room) result
 
 abbrev pub output_for : List ℕ → List ℕ → List ℕ
 output_for result out = output_with (room_refusal result (length out)) result out
+
+-- the answer as C gets it
+abbrev pub written_as : Result ℕ Refusal → Written
+written_as (Ok length) = record { number = 0; length = length }
+written_as (Err refusal) = record { number = number refusal; length = 0 }

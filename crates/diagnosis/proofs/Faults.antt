@@ -6,7 +6,7 @@ use native.Mathlib.Numerals.{add-one}
 use native.Mathlib.Decide.{dec_lt, ℕ_discrete}
 use mathlib.Core.Path.{◌≡◌, refl, ap, ◌∙◌, sym}
 use mathlib.Core.Bool.{Bool, true, false, not, ◌&&◌, true≢false}
-use mathlib.Core.Logic.{dite}
+use mathlib.Core.Logic.{dite, ◌≢◌}
 use mathlib.Core.List.{List, [], ◌∷◌}
 use borrow.Author.Tests.{eq-eqb, ne_eqb, eqb-true}
 use lib.Dec.{eqb}
@@ -17,14 +17,18 @@ use Rattle.checksum.specs.Checksum.{checksum_of}
 use Rattle.stream.specs.Layout.{kind, payload_length_of}
 use Rattle.stream.specs.declared.Kind.{Kind}
 use Rattle.stream.specs.declared.Kind.TheVariants.{Packet, Datagram, Telegram, Unknown}
-use Rattle.stream.specs.declared.Stop.{Stop}
-use Rattle.stream.specs.Validation.{header_sum, frame_sum, rule_at, validation_of, stop_of, is_whole}
+use Rattle.stream.specs.Validation.{number, header_sum, frame_sum, rule_at, validation_of, is_whole}
+use Rattle.stream.specs.declared.Verdict.{Verdict}
+use Rattle.stream.specs.declared.Verdict.TheVariants.{Whole as V0, NoSync, HighByte, UnknownVersion, HeaderChecksum, FrameChecksum, Ended}
+use Rattle.stream.specs.declared.stop.Stop.{Stop}
+use Rattle.std.specs.Prelude.{Some, None}
+use Rattle.std.specs.Option.{is_some, unwrap_or}
+use Rattle.diagnosis.specs.Stage.{byte_wanted}
 use Rattle.stream.proofs.Offsets.{low-before}
 use Rattle.stream.proofs.Syncs.{NextSync}
 use Rattle.recording.proofs.Deliveries.{Whole, whole-sync}
 use Rattle.diagnosis.specs.declared.Fault.{Fault}
-use Rattle.diagnosis.specs.Fault.{is_fault, has_byte_of, has_wanted_of, wanted_at, fault_by, fault_of, faults_from, faults_after, none, first_of, next_fault}
-use Rattle.diagnosis.specs.Stage.{SaidOf, width}
+use Rattle.diagnosis.specs.Fault.{is_fault, has_wanted_of, wanted_at, fault_of, faults_from, faults_after, none, first_of, next_fault}
 
 -- ── a stretch
 
@@ -51,50 +55,66 @@ module _ (s : List ℕ) (e : is_fault s ≡ true) where
 
 -- ── the byte wanted, by the verdict
 
-module _ (s : List ℕ) (v k : ℕ) where
-  pub wanted-header : v ≡ 4 → rule_at (kind s) k ≡ header_sum (k - 1) → wanted_at s v k ≡ checksum_of (take (k - 1) (drop 1 s))
-  unfolding wanted_at choose
-  wanted-header four rule = rw (eq-eqb v 4 four, rule) refl
+named : (test : Bool) (x : ℕ) → is_some (choose test (Some x) None) ≡ test
+unfolding choose
+named true x = refl
+named false x = refl
 
-  pub wanted-frame : v ≡ 6 → (w : ℕ) → rule_at (kind s) k ≡ frame_sum w → w + 1 ≤ k → wanted_at s v k ≡ checksum_of (take (k - (k - (w + 1))) (drop (k - (w + 1)) s))
+or-zero : (test : Bool) (x : ℕ) → unwrap_or (choose test (Some (choose test x 0)) None) 0 ≡ choose test x 0
+unfolding choose
+or-zero true x = refl
+or-zero false x = refl
+
+none-wanted : (verdict : Verdict) → verdict ≢ HeaderChecksum → verdict ≢ FrameChecksum → has_wanted_of (number verdict) ≡ false
+none-wanted V0 header frame = refl
+none-wanted NoSync header frame = refl
+none-wanted HighByte header frame = refl
+none-wanted UnknownVersion header frame = refl
+none-wanted HeaderChecksum header frame = absurd (header refl)
+none-wanted FrameChecksum header frame = absurd (frame refl)
+none-wanted Ended header frame = refl
+
+module _ (s : List ℕ) (stop : Stop) where
+  abbrev v : ℕ
+  v = number stop.verdict
+
+  abbrev k : ℕ
+  k = stop.offset
+
+  pub wanted-header : v ≡ 4 → rule_at (kind s) k ≡ header_sum (k - 1) → (byte : ℕ) → byte ≡ checksum_of (take (k - 1) (drop 1 s)) → Some byte ≡ byte_wanted s stop
   unfolding wanted_at choose
-  wanted-frame six w rule room =
+  wanted-header four rule byte is = rw (eq-eqb v 4 four, rule, is) refl
+
+  pub wanted-frame : v ≡ 6 → (w : ℕ) → rule_at (kind s) k ≡ frame_sum w → w + 1 ≤ k
+      → (byte : ℕ) → byte ≡ checksum_of (take (k - (k - (w + 1))) (drop (k - (w + 1)) s)) → Some byte ≡ byte_wanted s stop
+  unfolding wanted_at choose
+  wanted-frame six w rule room byte is =
       let size : k - (k - (w + 1)) ≡ w + 1 = omega arith in
-      ap (λ (n : ℕ). wanted_at s n k) six ∙ rw (rule, size) refl
+      rw (is, size, rule, six) refl
 
-  pub wanted-none : (v ≡ 4 → ⊥) → (v ≡ 6 → ⊥) → wanted_at s v k ≡ 0
-  unfolding wanted_at choose
-  wanted-none four six = rw (ne_eqb v 4 four, ne_eqb v 6 six)
+  pub wanted-none : stop.verdict ≢ HeaderChecksum → stop.verdict ≢ FrameChecksum → None ≡ byte_wanted s stop
+  unfolding choose
+  wanted-none header frame = rw (none-wanted stop.verdict header frame) refl
 
--- the payload bytes of a frame are few
+  -- a byte is named if one is wanted, and is 0 if none is
+  pub wanted-some : is_some (byte_wanted s stop) ≡ has_wanted_of v
+  wanted-some = named (has_wanted_of v) _
+
+  pub wanted-or : unwrap_or (byte_wanted s stop) 0 ≡ wanted_at s v k
+  unfolding wanted_at
+  wanted-or = or-zero (has_wanted_of v) _
+
+-- the payload bytes of a frame of s, where it has frames
+abbrev pub width : List ℕ → ℕ
+width s = payload_length_of (kind s) 1
+
+-- they are few
 pub width-most : (K : Kind) → payload_length_of K 1 ≤ 7
 unfolding payload_length_of
 width-most Packet = omega arith
 width-most Datagram = omega arith
 width-most Telegram = omega arith
 width-most Unknown = omega arith
-
-pub width_is : (w : ℕ) (s : List ℕ) (K : Kind) → w ≡ payload_length_of K 1 → K ≡ kind s → w ≡ width s
-width_is w s K e is = e ∙ ap (λ (L : Kind). payload_length_of L 1) is
-
--- ── what is told, by what was found out
-
-pub said-by : (s : List ℕ) (a : Stop) → a ≡ stop_of s → SaidOf s a.verdict a.offset
-said-by s a e = record { by-verdict = ap (λ (a : Stop). a.verdict) (sym e); by-offset = ap (λ (a : Stop). a.offset) (sym e) }
-
-pub described : (q : ℕ) (s : List ℕ) (v k byte : ℕ) (has : Bool) (wanted : ℕ) → SaidOf s v k → byte ≡ get_or s k 0 → has ≡ has_wanted_of v → wanted ≡ wanted_at s v k
-    → record {
-      found = true;
-      place = q;
-      verdict = v;
-      offset = k;
-      has_byte = has_byte_of v;
-      byte = byte;
-      has_wanted = has;
-      wanted = wanted;
-    } ≡ fault_of q s
-described q s v k byte has wanted said b h w =
-    rw (b, h, w) (ap (λ (n : ℕ). fault_by q s n k) (sym said.by-verdict) ∙ ap (fault_by q s (validation_of s).verdict) (sym said.by-offset))
 
 -- ── one place
 

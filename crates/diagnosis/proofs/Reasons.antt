@@ -7,7 +7,7 @@ use mathlib.Core.Path.{◌≡◌, refl, ap, ◌∙◌, sym, subst, subst⁻¹}
 use mathlib.Core.Logic.{dite, ◌≢◌, ◌↔◌, ◌⊎◌, inl, inr, ⊎_elim}
 use mathlib.Core.Bool.{Bool, true, false, true≢false}
 use mathlib.Core.List.{List, [], ◌∷◌, ◌++◌, append_assoc}
-use borrow.Author.Tests.{eqb-true, eq-eqb, ne_eqb}
+use borrow.Author.Tests.{eqb-true, eq-eqb, ne_eqb, lt-ltb, le-ltb}
 use lib.ListN.{length, get_or, take, drop, length-drop}
 use lib.Seq.{take_at, take-suc, length-take-le}
 use Rattle.basics.specs.Choice.{choose}
@@ -15,7 +15,12 @@ use Rattle.basics.proofs.Choice.{choose-by, equal-of-zero}
 use Rattle.stream.specs.Layout.{kind, header_length, frame_width, frame_count, length_as, stream_length, payload_length_of}
 use Rattle.stream.specs.declared.Kind.{Kind}
 use Rattle.stream.specs.declared.Kind.TheVariants.{Packet, Datagram, Telegram, Unknown}
-use Rattle.stream.specs.Validation.{Rule, any, unknown, header_sum, frame_sum, header_rule, rule_at, sum_at, breach, fault_at, validation_of}
+use Rattle.stream.specs.Validation.{Rule, any, unknown, header_sum, frame_sum, header_rule, rule_at, sum_at, breach, fault_at, number, said_by, validation_of}
+use Rattle.stream.specs.declared.stop.Stop.{Stop}
+use Rattle.stream.proofs.Said.{StopSaid, stop-said}
+use Rattle.std.specs.Prelude.{Err, Option}
+use Rattle.std.specs.Option.{is_some, unwrap_or}
+use lib.Dec.{ltb}
 use Rattle.stream.proofs.Faults.{rule-header, sync-right, sync-wrong, fault-low, fault-high, low_held, fault-most}
 use Rattle.stream.proofs.Offsets.{NotWhole, cut, broken, not-whole}
 use Rattle.stream.proofs.Prefixes.{Same, Fits, fits, same-rule, same-long, fault-stays}
@@ -23,9 +28,9 @@ use Rattle.stream.proofs.Reached.{whole-clean}
 use Rattle.recording.proofs.Deliveries.{Whole}
 use Rattle.diagnosis.specs.Fault.{has_byte_of, has_wanted_of, wanted_at, fault_by, fault_of, next_fault}
 use Rattle.diagnosis.specs.Reason.{VerdictTold, CanGrow, ReasonTrue, WantedRight}
-use Rattle.diagnosis.specs.Stage.{SaidOf, SumsAt}
+use Rattle.diagnosis.specs.Stage.{byte_wanted}
 use Rattle.diagnosis.specs.declared.Fault.{Fault}
-use Rattle.diagnosis.proofs.Faults.{found_at, fault-not-whole}
+use Rattle.diagnosis.proofs.Faults.{found_at, fault-not-whole, width, wanted-some, wanted-or}
 use Rattle.diagnosis.proofs.Growing.{CleanTo, same-right, here, next-held, grown-more, grown-can, size, taken, taken-grown, taken-below}
 
 -- ── the rule that a byte at fault breaks
@@ -267,6 +272,11 @@ frame-rule K unknown k f e = absurd (omega arith)
 frame-rule K (header_sum n) k f e = absurd (omega arith)
 frame-rule K (frame_sum width) k f e = (ap frame_sum f.0, omega (arith, f.0, f.1), f.2)
 
+-- which checksum is wrong, by the verdict, and that the bytes that it should cover are there
+pub record SumsAt (s : List ℕ) (verdict offset : ℕ) : Type 0 where
+  pub header : verdict ≡ 4 → (rule_at (kind s) offset ≡ header_sum (offset - 1)) × (1 ≤ offset) × (offset ≤ length s)
+  pub frame : verdict ≡ 6 → (rule_at (kind s) offset ≡ frame_sum (width s)) × (5 < length s) × (width s + 1 ≤ offset) × (offset ≤ length s)
+
 sums-of : (s : List ℕ) (v k : ℕ) → NotWhole s v k → SumsAt s v k
 unfolding stream_length
 sums-of s v k (cut seven ends clean below) = record { header = λ e. absurd (omega arith); frame = λ e. absurd (omega arith) }
@@ -282,9 +292,36 @@ sums-of s v k (broken e pos clean below inside) =
           (rule ∙ ap frame_sum alike, omega arith, omega (arith, room, alike), omega arith);
     }
 
-pub sums_at : (s : List ℕ) (v k : ℕ) → SaidOf s v k → SumsAt s v k
-sums_at s v k said =
-    dite (ℕ_discrete v 0)
-    (λ zero. record { header = λ e. absurd (omega arith); frame = λ e. absurd (omega arith) })
-    (λ bad. subst (SumsAt s v) said.by-offset
-    (subst (λ (n : ℕ). SumsAt s n (validation_of s).offset) said.by-verdict (sums-of s _ _ (not-whole s (λ w. bad (sym said.by-verdict ∙ w))))))
+-- ── what is told, by where the stretch first goes wrong
+
+-- the byte at the offset is there, but for V7
+byte-there : (s : List ℕ) (v k : ℕ) → NotWhole s v k → ltb k (length s) ≡ has_byte_of v
+byte-there s v k (cut seven ends clean below) = rw (le-ltb k (length s) (omega arith), eq-eqb v 7 seven) refl
+byte-there s v k (broken e pos clean below inside) =
+    rw (lt-ltb k (length s) inside, ne_eqb v 7 (λ seven. omega (arith, e, fault-most s k))) refl
+
+module _ (s : List ℕ) (stop : Stop) (is : said_by (Err stop) ≡ validation_of s) where
+  said : StopSaid s stop
+  said = stop-said s stop is
+
+  stopped : NotWhole s (number stop.verdict) stop.offset
+  stopped =
+      subst (λ (n : ℕ). NotWhole s (number stop.verdict) n) said.offset
+      (subst (λ (n : ℕ). NotWhole s n (validation_of s).offset) said.verdict (not-whole s said.faulty))
+
+  pub sums_at : SumsAt s (number stop.verdict) stop.offset
+  sums_at = sums-of s _ _ stopped
+
+  pub described : (q : ℕ) (byte wanted : Option ℕ) → is_some byte ≡ ltb stop.offset (length s) → unwrap_or byte 0 ≡ get_or s stop.offset 0 → wanted ≡ byte_wanted s stop
+      → record {
+        found = true;
+        place = q;
+        verdict = number stop.verdict;
+        offset = stop.offset;
+        has_byte = is_some byte;
+        byte = unwrap_or byte 0;
+        has_wanted = is_some wanted;
+        wanted = unwrap_or wanted 0;
+      } ≡ fault_of q s
+  described q byte wanted there b w =
+      rw (there, byte-there s _ _ stopped, b, w, wanted-some s stop, wanted-or s stop, said.verdict, said.offset) refl

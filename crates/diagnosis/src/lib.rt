@@ -1,14 +1,17 @@
 // Why a sync byte gave no record (request No. 4).
 #![tactic(auto)]
 
-ghost use Rattle.std.specs.Prelude.{◌≡◌, get_or};
-ghost use Rattle.diagnosis.specs.Fault.{has_wanted_of, wanted_at, fault_of, next_fault};
-ghost use Rattle.diagnosis.specs.Stage.{SaidOf, SumsAt};
+ghost use Rattle.std.specs.Prelude.{◌≡◌, Err};
+ghost use Rattle.stream.specs.Validation.{said_by, validation_of};
+ghost use Rattle.diagnosis.specs.Fault.{fault_of, next_fault};
+ghost use Rattle.diagnosis.specs.Stage.{byte_wanted};
+
+use stream::{Stop, Verdict};
 
 // A sync byte that gave no record, and why: its place, the verdict on the stretch from there on with its offset, the byte that stands
 // at the offset and, for V4 and V6, the byte that would have been right. Without a fault all is zero.
 #[repr(C)]
-#[derive(Clone, Copy)]
+#[derive(Clone, Copy, Default)]
 pub struct Fault {
     pub found: bool,
     pub place: usize,
@@ -20,71 +23,38 @@ pub struct Fault {
     pub wanted: u8,
 }
 
-fn none() -> Fault
-    ensures { result ≡ Rattle.diagnosis.specs.Fault.none }
+// The checksum that would have been right at the offset, if the verdict is that one is wrong.
+fn wanted(stretch: &[u8], stop: Stop) -> Option<u8>
+    requires { said_by (Err stop) ≡ validation_of stretch.now }
+    ensures { result ≡ byte_wanted stretch.now stop }
 {
-    Fault {
-        found: false,
-        place: 0,
-        verdict: 0,
-        offset: 0,
-        has_byte: false,
-        byte: 0,
-        has_wanted: false,
-        wanted: 0,
+    match stop.verdict {
+        Verdict::HeaderChecksum => Some(checksum::checksum(&stretch[1..stop.offset])),
+        Verdict::FrameChecksum => {
+            let size = stream::payload_length(stream::kind_of(stretch[5]), 1) + 1;
+            let start = stop.offset - size;
+            Some(checksum::checksum(&stretch[start..stop.offset]))
+        }
+        _ => None,
     }
 }
 
-fn has_wanted(verdict: u8) -> bool
-    ensures { result ≡ has_wanted_of verdict }
-{
-    if verdict == 4 {
-        return true;
-    }
-    verdict == 6
-}
-
-// The checksum that is right at the offset of V4 or V6, else 0.
-fn wanted(stretch: &[u8], verdict: u8, offset: usize) -> u8
-    requires { SumsAt stretch.now verdict offset }
-    ensures { result ≡ wanted_at stretch.now verdict offset }
-{
-    if verdict == 4 {
-        return checksum::checksum(&stretch[1..offset]);
-    }
-    if verdict == 6 {
-        let size = stream::payload_length(stream::kind_of(stretch[5]), 1) + 1;
-        let start = offset - size;
-        return checksum::checksum(&stretch[start..offset]);
-    }
-    0
-}
-
-// The byte at the offset, or 0 at the end.
-fn byte_at(stretch: &[u8], offset: usize) -> u8
-    ensures { result ≡ get_or stretch.now offset 0 }
-{
-    if offset < stretch.len() {
-        stretch[offset]
-    } else {
-        0
-    }
-}
-
-// The fault of a stretch that stands at `place`, by the verdict on it.
-fn describe(stretch: &[u8], place: usize, verdict: u8, offset: usize) -> Fault
-    requires { SaidOf stretch.now verdict offset }
+// The fault of a stretch that stands at `place`, by where it first goes wrong. At the end of the stretch there is no byte.
+fn describe(stretch: &[u8], place: usize, stop: Stop) -> Fault
+    requires { said_by (Err stop) ≡ validation_of stretch.now }
     ensures { result ≡ fault_of place stretch.now }
 {
+    let byte = stretch.get(stop.offset).copied();
+    let wanted = wanted(stretch, stop);
     Fault {
         found: true,
         place,
-        verdict,
-        offset,
-        has_byte: verdict != 7,
-        byte: byte_at(stretch, offset),
-        has_wanted: has_wanted(verdict),
-        wanted: wanted(stretch, verdict, offset),
+        verdict: stop.verdict.number(),
+        offset: stop.offset,
+        has_byte: byte.is_some(),
+        byte: byte.unwrap_or(0),
+        has_wanted: wanted.is_some(),
+        wanted: wanted.unwrap_or(0),
     }
 }
 
@@ -98,14 +68,12 @@ pub fn next_fault(recording: &[u8], start: usize) -> Fault
     loop {
         at = stream::next_sync(recording, at);
         if at >= recording.len() {
-            return none();
+            return Fault::default();
         }
-        let stop = stream::first_fault(&recording[at..]);
-        let offset = stop.offset;
-        if stop.verdict != 0 {
-            return describe(&recording[at..], at, stop.verdict, offset);
+        match stream::first_fault(&recording[at..]) {
+            Ok(stream) => at += stream.length, // past it: none of its bytes but the first is a sync byte
+            Err(stop) => return describe(&recording[at..], at, stop),
         }
-        at += offset; // past a whole stream: none of its bytes but the first is a sync byte
     }
 }
 
@@ -124,7 +92,7 @@ pub fn cursor_at<'a>(recording: &'a [u8], place: usize) -> Cursor<'a>
 }
 
 // The first fault from the cursor on.
-pub fn read_fault<'a>(cursor: Cursor<'a>) -> Fault
+pub fn read_fault(cursor: Cursor) -> Fault
     ensures { result ≡ next_fault cursor.entry.recording.now cursor.entry.place }
 {
     next_fault(cursor.recording, cursor.place)

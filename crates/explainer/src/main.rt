@@ -3,6 +3,7 @@
 
 use explanation::ROOM;
 use listing::MOST;
+use record::LONGEST_PAYLOAD;
 use std::process::ExitCode;
 
 // Whether whoever reads the output is still there.
@@ -19,23 +20,21 @@ fn print_explanation(rt: &HostRuntime, recording: &[u8]) -> bool {
 
 // An explanation is empty where all is well, so whether there is a record is asked for itself.
 fn has_record(recording: &[u8]) -> bool {
-    let mut payload = [0u8; 508]; // no record's payload is longer
+    let mut payload = [0u8; LONGEST_PAYLOAD];
     recording::next(recording, 0, &mut payload).found
 }
 
 fn main(rt: HostRuntime) -> ExitCode {
     // One byte more than is explained shows that there is more.
-    let mut input = [0u8; MOST + 1];
-    let size = stdio::read_input(&rt, &mut input);
-    if !print_explanation(&rt, &input[..size]) {
+    let mut buffer = [0u8; MOST + 1];
+    let input = stdio::read_input(&rt, &mut buffer);
+    if !print_explanation(&rt, input) {
         return ExitCode::from(stdio::READER_GONE);
     }
-    if size > MOST {
+    if input.len() > MOST {
         stdio::tell_too_long(&rt);
-    } else if size > 0 {
-        if !has_record(&input[..size]) {
-            stdio::tell_no_record(&rt, size);
-        }
+    } else if !input.is_empty() && !has_record(input) {
+        stdio::tell_no_record(&rt, input.len());
     }
     ExitCode::SUCCESS
 }

@@ -1,10 +1,9 @@
 -- The explanation of a recording, fault by fault: a line for what `next_fault` finds, and then the lines of those behind its place.
 use Prim.Native.Nat.{ℕ, ◌+◌, ◌≤◌, ◌<◌}
-use native.Mathlib.Omega.{arith}
 use mathlib.Core.Path.{◌≡◌, ap, ◌∙◌, sym}
 use mathlib.Core.Bool.{true, false}
-use mathlib.Core.List.{List, [], ◌++◌, append_assoc}
-use lib.ListN.{length, length-append}
+use mathlib.Core.List.{List, [], ◌++◌}
+use lib.ListN.{length}
 use Rattle.diagnosis.specs.Fault.{faults_after, next_fault}
 use Rattle.diagnosis.specs.declared.Fault.{Fault}
 use Rattle.diagnosis.specs.Reason.{Asked}
@@ -33,17 +32,6 @@ module _ (s : List ℕ) (start : ℕ) (f : Fault) (told : f ≡ next_fault s sta
   pub no_line : f.found ≡ false → lines_after s start ≡ []
   unfolding lines_of
   no_line e = ap lines_of (none_after s start (ap (λ (g : Fault). g.found) (sym told) ∙ e))
-
--- behind what is written so far
-module _ (s : List ℕ) (start : ℕ) (f : Fault) (next : Next s start f) (done : List ℕ) (so_far : done ++ lines_after s start ≡ explanation_of s) where
-  abbrev more : List ℕ
-  more = lines_after s (f.place + 1)
-
-  pub next-done : (done ++ line_of f) ++ more ≡ explanation_of s
-  next-done = append_assoc done (line_of f) more ∙ ap (λ (l : List ℕ). done ++ l) (sym next.rest) ∙ so_far
-
-  pub next_fits : length done + length (line_of f) ≤ length (explanation_of s)
-  next_fits = omega (arith, ap length next-done, length-append (done ++ line_of f) more, length-append done (line_of f))
 
 -- ── the explanation, by the answers
 

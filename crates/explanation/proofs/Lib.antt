@@ -1,4 +1,4 @@
-pub mod Appending
 pub mod Following
 pub mod Room
+pub mod Writing
 pub mod Samples

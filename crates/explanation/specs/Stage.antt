@@ -1,7 +1,9 @@
--- What the private functions under `line` promise. No public contract cites this file.
-use Rattle.std.specs.Prelude.{ℕ, ◌+◌, ◌≤◌, ◌≡◌, List, ◌++◌, take}
+-- What a private function under `line` writes. No public contract cites this file.
+use Rattle.std.specs.Prelude.{ℕ, Option, Some, None, List, []}
+use Rattle.text.specs.Hex.{hex_byte}
+use Rattle.listing.specs.Line.{spaced}
 
--- a text of at most so many bytes was put behind the first `at` bytes of a buffer, and ends at `end`
-pub record Appended (most : ℕ) (text old : List ℕ) (at : ℕ) (new : List ℕ) (end : ℕ) : Type 0 where
-  pub small : end ≤ at + most
-  pub begins : take end new ≡ take at old ++ text
+-- a byte, where there is one, behind a space
+abbrev pub some_byte : Option ℕ → List ℕ
+some_byte None = []
+some_byte (Some byte) = spaced (hex_byte byte)

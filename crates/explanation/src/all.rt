@@ -15,12 +15,11 @@ pub fn lines(input: &[u8], out: &mut [u8]) -> usize
     let mut to = 0;
     loop {
         let fault = diagnosis::read_fault_at(input, place);
-        if fault.found {
-            let written = line(fault, &mut out[to..]);
-            to += written.length;
-            place = fault.place + 1;
-        } else {
-            break to;
+        if !fault.found {
+            return to;
         }
+        let written = line(fault, &mut out[to..]);
+        to += written.length;
+        place = fault.place + 1;
     }
 }

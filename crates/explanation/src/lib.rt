@@ -2,13 +2,14 @@
 #![tactic(auto)]
 
 ghost use Rattle.std.specs.Prelude.{◌≡◌, length};
+ghost use Rattle.basics.specs.Output.{written_as};
 ghost use Rattle.explanation.specs.Line.{line_written, line_after};
 ghost use Rattle.explanation.specs.Explanation.{explained_of, explained_after};
 
 mod all;
 mod write;
 
-use basics::Written;
+use basics::{Refusal, Written};
 use diagnosis::Fault;
 use listing::MOST;
 
@@ -16,24 +17,25 @@ use listing::MOST;
 // each byte (law `explanation-room`).
 pub const ROOM: usize = 2621440;
 
-// 5: the output is too short.
-const TOO_SHORT: Written = Written {
-    number: 5,
-    length: 0,
-};
-
 // Writes a fault's line to the start of `out`. A refusal leaves every byte of `out` as it was.
 pub fn line(fault: Fault, out: &mut [u8]) -> Written
     ensures value { result ≡ line_written fault (length out.old) }
     ensures out_after { out.new ≡ line_after fault out.old }
 {
-    let mut text = [0u8; 94]; // no line is longer, whatever the fault
-    let length = write::line(fault, &mut text);
-    if out.len() < length {
-        return TOO_SHORT;
+    Written::from(written_line(fault, out))
+}
+
+// The same, before it is made C's answer.
+fn written_line(fault: Fault, out: &mut [u8]) -> Result<usize, Refusal>
+    ensures value { written_as result ≡ line_written fault (length out.old) }
+    ensures out_after { out.new ≡ line_after fault out.old }
+{
+    let line = write::line(fault);
+    let text = line.as_slice();
+    if out.len() < text.len() {
+        return Err(Refusal::OutputTooShort);
     }
-    basics::copy(&text[0..length], out);
-    Written { number: 0, length }
+    Ok(basics::copy(text, out))
 }
 
 // Writes what the explainer prints for a recording to the start of `out`: the explanation, or `too long`.
@@ -42,17 +44,19 @@ pub fn explain(input: &[u8], out: &mut [u8]) -> Written
     ensures value { result ≡ explained_of input.now (length out.old) }
     ensures out_after { out.new ≡ explained_after input.now out.old }
 {
+    Written::from(explained(input, out))
+}
+
+// The same, before it is made C's answer.
+fn explained(input: &[u8], out: &mut [u8]) -> Result<usize, Refusal>
+    ensures value { written_as result ≡ explained_of input.now (length out.old) }
+    ensures out_after { out.new ≡ explained_after input.now out.old }
+{
     if out.len() < ROOM {
-        return TOO_SHORT;
+        return Err(Refusal::OutputTooShort);
     }
     if input.len() > MOST {
-        return Written {
-            number: 0,
-            length: basics::copy(b"too long\n", out),
-        };
+        return Ok(basics::copy(b"too long\n", out));
     }
-    Written {
-        number: 0,
-        length: all::lines(input, out),
-    }
+    Ok(all::lines(input, out))
 }

@@ -1,95 +1,117 @@
-// Writing a line. Each function puts its text into `out` behind the first `at` bytes, and returns where it ends.
-ghost use Rattle.std.specs.Prelude.{◌≡◌, ◌+◌, ◌≤◌, ◌++◌, length};
-ghost use Rattle.text.specs.Decimal as text;
+// Writing a line.
+ghost use Rattle.std.specs.Prelude.{◌≡◌, ℕ, ◌+◌, ◌≤◌, List, [], ◌++◌, length, take};
+ghost use Rattle.text.specs.Decimal.{decimal};
 ghost use Rattle.explanation.specs.Line as lines;
-ghost use Rattle.explanation.specs.Stage.{Appended};
+ghost use Rattle.explanation.specs.Stage.{some_byte};
 
 use diagnosis::Fault;
+use std::marker::Model;
+use stream::Verdict;
 
-fn piece(text: &[u8], out: &mut [u8], at: usize) -> usize
-    requires { at + length text.now ≤ length out.old }
-    ensures { Appended (length text.now) text.now out.old at out.new result }
-{
-    at + basics::copy(text, &mut out[at..])
+// What is written of a line. No line is longer than 94 bytes, whatever the fault.
+#[derive(Drop)]
+pub struct LineText {
+    bytes: [u8; 94],
+    used: usize,
 }
 
-fn decimal(n: usize, out: &mut [u8], at: usize) -> usize
-    requires { at + length (text.decimal n) ≤ length out.old }
-    ensures { Appended (length (text.decimal n)) (text.decimal n) out.old at out.new result }
-{
-    let digit = [b'0' + (n % 10) as u8];
-    if n < 10 {
-        return piece(&digit, out, at);
+impl Model for LineText {
+    ghost Value = { List ℕ };
+
+    ghost view = { λ line. take line.used line.bytes };
+
+    ghost invariant = { λ line. line.used ≤ 94 };
+}
+
+impl LineText {
+    fn new() -> LineText
+        ensures { result ≡ [] }
+    {
+        LineText {
+            bytes: [0; 94],
+            used: 0,
+        }
     }
-    let last = decimal(n / 10, out, at);
-    piece(&digit, out, last)
-}
 
-// A number behind a prefix.
-fn number(prefix: &[u8], n: usize, out: &mut [u8], at: usize) -> usize
-    requires { at + length prefix.now + 20 ≤ length out.old }
-    ensures { Appended (length prefix.now + 20) (prefix.now ++ text.decimal n) out.old at out.new result }
-{
-    let start = piece(prefix, out, at);
-    decimal(n, out, start)
-}
-
-// The place, the verdict and the offset.
-fn numbers(fault: Fault, out: &mut [u8]) -> usize
-    requires { 63 ≤ length out.old }
-    ensures { Appended 63 (lines.numbers_text fault.place fault.verdict fault.offset) out.old 0 out.new result }
-{
-    let mut end = number(b"", fault.place, out, 0);
-    end = number(b" V", fault.verdict as usize, out, end);
-    number(b" ", fault.offset, out, end)
-}
-
-// A space and a byte, where there is one.
-fn byte(has: bool, value: u8, out: &mut [u8], at: usize) -> usize
-    requires { at + 3 ≤ length out.old }
-    ensures { Appended 3 (lines.byte_text has value) out.old at out.new result }
-{
-    if has {
-        let digits = text::hex_byte(value);
-        return piece(&[b' ', digits[0], digits[1]], out, at);
+    pub fn as_slice(&self) -> &[u8]
+        ensures { result.now ≡ self.now }
+    {
+        &self.bytes[..self.used]
     }
-    at
+
+    fn push(&mut self, text: &[u8])
+        requires { length self.old + length text.now ≤ 94 }
+        ensures appended { self.new ≡ self.old ++ text.now }
+        ensures size { length self.new ≡ length self.old + length text.now }
+    {
+        self.used += basics::copy(text, &mut self.bytes[self.used..]);
+    }
+
+    // By hand: by their contracts, std's `write!` to a buffer may fail and says nothing of the bytes then, and `InlineText` may end in dots
+    // in place of digits, whatever its room; the kit's itoa would be one more library to trust.
+    fn push_digits(&mut self, n: usize)
+        requires { length self.old + length (decimal n) ≤ 94 }
+        ensures { self.new ≡ self.old ++ decimal n }
+    {
+        let digit = [b'0' + (n % 10) as u8];
+        if n < 10 {
+            return self.push(&digit);
+        }
+        self.push_digits(n / 10);
+        self.push(&digit);
+    }
+
+    fn push_number(&mut self, n: usize)
+        requires { length self.old + 20 ≤ 94 }
+        ensures appended { self.new ≡ self.old ++ decimal n }
+        ensures size { length self.new ≤ length self.old + 20 }
+    {
+        self.push_digits(n);
+    }
+
+    // A space and a byte, where there is one.
+    fn push_byte(&mut self, byte: Option<u8>)
+        requires { length self.old + 3 ≤ 94 }
+        ensures appended { self.new ≡ self.old ++ some_byte byte }
+        ensures size { length self.new ≤ length self.old + 3 }
+    {
+        if let Some(byte) = byte {
+            self.push(b" ");
+            self.push(&text::hex_byte(byte));
+        }
+    }
 }
 
 fn is_cut_off(fault: Fault) -> bool
     ensures { result ≡ lines.is_cut_off fault }
 {
-    if fault.verdict == 2 {
-        return fault.byte == 0xAA;
+    fault.verdict == Verdict::HighByte.number() && fault.byte == 0xAA
+}
+
+#[tactic(auto, unfolding(crate::specs::Line::remark_text, basics::specs::Choice::choose))]
+fn remark(fault: Fault) -> &'static [u8]
+    ensures text { result.now ≡ lines.remark_text (lines.is_cut_off fault) }
+    ensures size { length result.now ≤ 24 }
+{
+    if is_cut_off(fault) {
+        b" cut off by a new stream"
+    } else {
+        b""
     }
-    false
 }
 
-fn remark(cut: bool, out: &mut [u8], at: usize) -> usize
-    requires { at + 24 ≤ length out.old }
-    ensures { Appended 24 (lines.remark_text cut) out.old at out.new result }
+pub fn line(fault: Fault) -> LineText
+    ensures { result ≡ lines.line_of fault }
 {
-    if cut {
-        return piece(b" cut off by a new stream", out, at);
-    }
-    at
-}
-
-// The byte found, the byte wanted, the remark and a newline.
-fn rest(fault: Fault, out: &mut [u8], at: usize) -> usize
-    requires { at + 31 ≤ length out.old }
-    ensures { Appended 31 (lines.rest_text fault) out.old at out.new result }
-{
-    let mut end = byte(fault.has_byte, fault.byte, out, at);
-    end = byte(fault.has_wanted, fault.wanted, out, end);
-    end = remark(is_cut_off(fault), out, end);
-    piece(b"\n", out, end)
-}
-
-pub fn line(fault: Fault, out: &mut [u8]) -> usize
-    requires { 94 ≤ length out.old }
-    ensures { Appended 94 (lines.line_of fault) out.old 0 out.new result }
-{
-    let end = numbers(fault, out);
-    rest(fault, out, end)
+    let mut line = LineText::new();
+    line.push_number(fault.place);
+    line.push(b" V");
+    line.push_number(fault.verdict as usize);
+    line.push(b" ");
+    line.push_number(fault.offset);
+    line.push_byte(fault.has_byte.then_some(fault.byte));
+    line.push_byte(fault.has_wanted.then_some(fault.wanted));
+    line.push(remark(fault));
+    line.push(b"\n");
+    line
 }

@@ -6,21 +6,18 @@ use std::process::ExitCode;
 
 fn main(rt: HostRuntime) -> ExitCode {
     // One byte more than is listed shows that there is more.
-    let mut input = [0u8; MOST + 1];
+    let mut buffer = [0u8; MOST + 1];
     let mut out = [0u8; ROOM];
-    let size = stdio::read_input(&rt, &mut input);
-    let written = listing::list(&input[..size], &mut out);
-    let length = written.length;
-    if !stdio::write_output(&rt, listing::written_text(&out, written)) {
+    let input = stdio::read_input(&rt, &mut buffer);
+    let written = listing::list(input, &mut out);
+    let text = listing::written_text(&out, written);
+    if !stdio::write_output(&rt, text) {
         return ExitCode::from(stdio::READER_GONE);
     }
-    if size > MOST {
+    if input.len() > MOST {
         stdio::tell_too_long(&rt);
-    }
-    if size > 0 {
-        if length == 0 {
-            stdio::tell_no_record(&rt, size);
-        }
+    } else if text.is_empty() && !input.is_empty() {
+        stdio::tell_no_record(&rt, input.len());
     }
     ExitCode::SUCCESS
 }

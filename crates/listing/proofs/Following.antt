@@ -3,8 +3,8 @@ use Prim.Native.Nat.{ℕ, ◌+◌, ◌<◌, ◌≤◌}
 use native.Mathlib.Omega.{arith}
 use mathlib.Core.Path.{◌≡◌, refl, ap, sym, ◌∙◌}
 use mathlib.Core.Bool.{true, false, true≢false, false≢true}
-use mathlib.Core.List.{List, [], ◌++◌, append_assoc}
-use lib.ListN.{length, take, drop, length-append, length-drop}
+use mathlib.Core.List.{List, [], ◌++◌}
+use lib.ListN.{length, take, drop, replicate, length-drop}
 use lib.Seq.{take-append_seam}
 use Rattle.basics.specs.Bytes.{over}
 use Rattle.stream.specs.Validation.{validation_of}
@@ -62,24 +62,19 @@ lists s start buffer ds same (some q after inside whole free) =
     )
 
 -- with room for 508 bytes *next* is not refused
-pub next-lists : (s : List ℕ) (start : ℕ) (buffer : List ℕ) → start ≤ length s → 508 ≤ length buffer
-    → (a : Found) (after : List ℕ) → a ≡ next_of s start (length buffer) → after ≡ payload_after s start buffer → Lists s start a after
-next-lists s start buffer within room a after said left =
-    let (small, told) = lists s start buffer (deliveries_after s start) refl (first-after s start) in
-    let unrefused = refusal-none s start (length buffer) within (omega (arith, small)) in
-    rw (said ∙ next-answers s start (length buffer) unrefused, left ∙ output-written s start buffer unrefused) told
+abbrev buffer : List ℕ
+buffer = replicate 508 0
 
--- behind what is written so far
-module _ (s : List ℕ) (start : ℕ) (a : Found) (buffer : List ℕ) (next : Next s start a buffer) (done : List ℕ)
-    (so_far : done ++ listing_of (drop start s) ≡ listing_of s) where
-  abbrev line : List ℕ
-  line = line_of (record_in a buffer)
+module _ (s : List ℕ) (start : ℕ) (within : start ≤ length s) (a : Found) (after : List ℕ)
+    (said : a ≡ next_of s start (length buffer)) (left : after ≡ payload_after s start buffer) where
+  told : Lists s start a after
+  told =
+      let (small, answer) = lists s start buffer (deliveries_after s start) refl (first-after s start) in
+      let unrefused = refusal-none s start (length buffer) within (omega (arith, small)) in
+      rw (said ∙ next-answers s start (length buffer) unrefused, left ∙ output-written s start buffer unrefused) answer
 
-  abbrev more : List ℕ
-  more = listing_of (drop (a.position + a.length) s)
+  pub next-record : a.found ≡ true → Next s start a after
+  next-record = told.0
 
-  pub next-done : (done ++ line) ++ more ≡ listing_of s
-  next-done = append_assoc done line more ∙ ap (λ (l : List ℕ). done ++ l) (sym next.rest) ∙ so_far
-
-  pub next_fits : length done + length line ≤ length (listing_of s)
-  next_fits = omega (arith, ap length next-done, length-append (done ++ line) more, length-append done line)
+  pub next-none : a.found ≡ false → listing_of (drop start s) ≡ []
+  next-none = told.1

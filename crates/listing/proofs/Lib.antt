@@ -1,4 +1,5 @@
 pub mod Lines
 pub mod Room
+pub mod SoFar
 pub mod Following
 pub mod Samples

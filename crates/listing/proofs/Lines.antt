@@ -4,8 +4,10 @@ use native.Mathlib.Omega.{arith}
 use mathlib.Core.Path.{◌≡◌, refl, ap, sym, ◌∙◌}
 use mathlib.Core.Bool.{true, false, false≢true}
 use borrow.Author.Tests.{ltb-true}
+use Rattle.std.proofs.lemmas.Bool.{eqb-true}
 use mathlib.Core.List.{List, [], ◌∷◌, ◌++◌, append_assoc}
 use lib.ListN.{length, get_or, take, length-append}
+use Rattle.std.specs.Prelude.{◌==◌}
 use Rattle.basics.specs.Choice.{choose}
 use Rattle.basics.proofs.Choice.{choose-by}
 use Rattle.stream.specs.Layout.{kind_of}
@@ -31,15 +33,18 @@ bytes_hex-take [] i h = absurd (omega arith)
 bytes_hex-take (byte ∷ rest) zero h = refl
 bytes_hex-take (byte ∷ rest) (suc i) h = ap {B = List ℕ} (λ l. hex_byte byte ++ l) (bytes_hex-take rest i (omega arith))
 
-pub payload-none : (l : List ℕ) → length l ≡ 0 → hex_payload l ≡ []
+pub payload-none : (l : List ℕ) → (length l == 0) ≡ true → hex_payload l ≡ []
 unfolding hex_payload
 payload-none [] e = refl
-payload-none (byte ∷ rest) e = absurd (omega arith)
+payload-none (byte ∷ rest) e = absurd (omega (arith, eqb-true (suc (length rest)) 0 e))
 
-pub payload-some : (l : List ℕ) → 0 < length l → hex_payload l ≡ spaced (hex_bytes l)
+pub payload-some : (l : List ℕ) → (length l == 0) ≡ false → hex_payload l ≡ spaced (hex_bytes l)
 unfolding hex_payload
-payload-some [] h = absurd (omega arith)
-payload-some (byte ∷ rest) h = refl
+payload-some [] e = absurd (false≢true (sym e))
+payload-some (byte ∷ rest) e = refl
+
+pub length-some : (l : List ℕ) → (length l == 0) ≡ false → length (hex_payload l) ≡ 1 + 2 * length l
+length-some l e = ap length (payload-some l e) ∙ omega (arith, length-bytes_hex l)
 
 -- two digits for each byte and, where there are any, a space
 pub length-hex_payload : (l : List ℕ)

@@ -4,6 +4,7 @@ ghost use Rattle.basics.specs.Bytes.{over};
 ghost use Rattle.listing.specs.Listing.{listing_of};
 
 use crate::line;
+use record::LONGEST_PAYLOAD;
 
 // Writes the lines one behind the other, each to the rest of the output, and returns how many bytes they take.
 pub fn lines(input: &[u8], out: &mut [u8]) -> usize
@@ -14,16 +15,17 @@ pub fn lines(input: &[u8], out: &mut [u8]) -> usize
     let mut at = 0;
     let mut to = 0;
     loop {
-        let mut payload = [0u8; 508]; // no record's payload is longer
+        let mut payload = [0u8; LONGEST_PAYLOAD];
         let found = recording::next(input, at, &mut payload);
-        if found.found {
-            let next = found.position as usize + found.length;
-            let size = found.payload_length;
-            let written = line(found.header, &payload[0..size], &mut out[to..]);
-            to += written.length;
-            at = next;
-        } else {
-            break to;
+        if !found.found {
+            return to;
         }
+        let written = line(
+            found.header,
+            &payload[..found.payload_length],
+            &mut out[to..],
+        );
+        to += written.length;
+        at = found.position as usize + found.length;
     }
 }

@@ -46,12 +46,7 @@ fn fields(kind: Kind, header: Header) -> [u8; 14]
 fn is_byte(kind: Kind, command: u16) -> bool
     ensures { result ≡ lines.is_byte kind command }
 {
-    match kind {
-        Kind::Packet => false,
-        Kind::Datagram => false,
-        Kind::Telegram => command < 256,
-        Kind::Unknown => false,
-    }
+    kind == Kind::Telegram && command < 256
 }
 
 // A space and the command.
@@ -59,12 +54,11 @@ fn command(kind: Kind, command: u16, out: &mut [u8])
     requires { length (lines.spaced (lines.hex_command kind command)) ≤ length out.old }
     ensures { out.new ≡ over (lines.spaced (lines.hex_command kind command)) out.old }
 {
+    basics::copy(b" ", out);
     if is_byte(kind, command) {
-        let digits = text::hex_byte(command as u8);
-        basics::copy(&[b' ', digits[0], digits[1]], out);
+        basics::copy(&text::hex_byte(command as u8), &mut out[1..]);
     } else {
-        let digits = text::hex_word(command);
-        basics::copy(&[b' ', digits[0], digits[1], digits[2], digits[3]], out);
+        basics::copy(&text::hex_word(command), &mut out[1..]);
     }
 }
 
@@ -74,6 +68,7 @@ pub fn head_length(kind: Kind, command: u16) -> usize
     if is_byte(kind, command) { 17 } else { 19 }
 }
 
+#[tactic(auto, unfolding(crate::specs::Line::hex_head))]
 pub fn head(kind: Kind, header: Header, out: &mut [u8])
     requires { length (lines.hex_head kind header) ≤ length out.old }
     ensures { out.new ≡ over (lines.hex_head kind header) out.old }
@@ -85,21 +80,19 @@ pub fn head(kind: Kind, header: Header, out: &mut [u8])
 pub fn payload_text_length(payload: &[u8]) -> usize
     ensures { result ≡ length (lines.hex_payload payload.now) }
 {
-    if payload.len() == 0 {
-        return 0;
+    if payload.is_empty() {
+        0
+    } else {
+        1 + 2 * payload.len()
     }
-    1 + 2 * payload.len()
 }
 
 fn hex_bytes(bytes: &[u8], out: &mut [u8])
     requires { 2 * length bytes.now ≤ length out.old }
     ensures { out.new ≡ over (lines.hex_bytes bytes.now) out.old }
 {
-    let mut i = 0;
-    while i < bytes.len() {
-        let at = 2 * i;
-        basics::copy(&text::hex_byte(bytes[i]), &mut out[at..]);
-        i += 1;
+    for (i, byte) in bytes.iter().enumerate() {
+        basics::copy(&text::hex_byte(*byte), &mut out[2 * i..]);
     }
 }
 
@@ -108,9 +101,8 @@ pub fn payload(payload: &[u8], out: &mut [u8])
     requires { length (lines.hex_payload payload.now) ≤ length out.old }
     ensures { out.new ≡ over (lines.hex_payload payload.now) out.old }
 {
-    if payload.len() == 0 {
-        return;
+    if !payload.is_empty() {
+        basics::copy(b" ", out);
+        hex_bytes(payload, &mut out[1..]);
     }
-    basics::copy(b" ", out);
-    hex_bytes(payload, &mut out[1..]);
 }

@@ -1,9 +1,8 @@
 -- Laws of the loop over a chunk: what is to come of the bytes from here on is what was to come of all of them.
 use Prim.Native.Nat.{ℕ, ◌+◌, ◌-◌, ◌<◌, ◌≤◌}
 use native.Mathlib.Omega.{arith}
-use native.Mathlib.Nat.{zero-add}
 use native.Mathlib.Numerals.{add-one}
-use mathlib.Core.Path.{◌≡◌, refl, sym, ap, ◌∙◌}
+use mathlib.Core.Path.{◌≡◌, refl, sym, ap, subst⁻¹, ◌∙◌}
 use mathlib.Core.Bool.{true, false, true≢false}
 use mathlib.Core.Logic.{◌↔◌}
 use mathlib.Core.List.{List, [], ◌∷◌}
@@ -20,9 +19,8 @@ use Rattle.recording.specs.declared.Found.{Found}
 use Rattle.recording.proofs.Decoding.{beginning-whole, beginning-none, decoded-room, output-room, output-none, decode-exactly}
 use Rattle.recording.proofs.Deliveries.{Whole}
 use Rattle.receiver.specs.Holding.{extended, kept}
-use Rattle.receiver.specs.Receive.{Outcome, one_more, outcome_of, held_in, answer_of, completed_in, accepted_of}
-use Rattle.receiver.specs.Stage.{Holds, Restored, TookByte, unfinished, full, found_at}
-use Rattle.receiver.specs.declared.Receiver.{Receiver}
+use Rattle.receiver.specs.Receive.{Outcome, one_more, outcome_of, answer_of, completed_in, accepted_of}
+use Rattle.receiver.specs.Stage.{Holds, TookByte, unfinished, full, found_at}
 use Rattle.receiver.specs.declared.Received.{Received}
 use Rattle.receiver.specs.declared.buffer.Unfinished.{Unfinished}
 use Rattle.receiver.proofs.Extending.{length-extended, kept-short, kept-long}
@@ -43,18 +41,6 @@ pub record FeedAt (before : ℕ) (h chunk out₀ memory out : List ℕ) (u : Unf
   pub output : out ≡ out₀
   pub counted : u.held ≤ before + used
 
-pub feed-starts : (receiver : Receiver) (memory chunk out : List ℕ) (u : Unfinished) → length memory ≡ 772 → Restored receiver memory u
-    → FeedAt receiver.position (held_in receiver memory) chunk out memory out u 0
-feed-starts receiver memory chunk out u size restored =
-    record {
-      size = size;
-      holding = restored.holding;
-      within = omega arith;
-      same = rw (restored.bytes, zero-add);
-      output = refl;
-      counted = omega (arith, restored.counted);
-    }
-
 -- s is as long as it announces, and stands in the memory
 record Full (s memory : List ℕ) (n : ℕ) : Type 0 where
   most : n ≤ 772
@@ -66,10 +52,6 @@ abbrev pub Fed : ℕ → List ℕ → List ℕ → List ℕ → Received → Lis
 Fed before h chunk out answer out' memory' =
     (answer ≡ accepted_of before (outcome_of h chunk))
     × ((out' ≡ over (payload_of (completed_in before (outcome_of h chunk))) out) × (take answer.receiver.held memory' ≡ (outcome_of h chunk).held))
-
--- an answer with its own length
-same-length : (a : Received) (n : ℕ) → a.length ≡ n → record a { length = n } ≡ a
-same-length a n e = ap (λ (m : ℕ). record a { length = m }) (sym e)
 
 module _ {before : ℕ} {h chunk out₀ memory out : List ℕ} {u : Unfinished} {used : ℕ} (at : FeedAt before h chunk out₀ memory out u used) where
   -- ── one byte
@@ -140,9 +122,6 @@ module _ {before : ℕ} {h chunk out₀ memory out : List ℕ} {u : Unfinished} 
       full-long : length s ≡ u'.held
       full-long = stands-long u'.held full-took.is full-took.most
 
-      pub full-within : u'.held ≤ 772
-      full-within = full-took.most
-
       pub full-counted : u'.held ≤ before + (used + 1)
       full-counted = omega (arith, full-long, one-more)
 
@@ -158,7 +137,7 @@ module _ {before : ℕ} {h chunk out₀ memory out : List ℕ} {u : Unfinished} 
         exactly = rw told_of (decode-exactly s (length out) room)
 
         -- what is found is as long as what is held
-        found-long : found.found ≡ true → found.length ≡ u'.held
+        pub found-long : found.found ≡ true → found.length ≡ u'.held
         found-long is_found =
             let w = exactly.0 is_found in
             rw (told_of, decoded-room s (length out) room, beginning-whole 0 s w) ((whole-clean s w).offset ∙ full-took.long)
@@ -169,7 +148,7 @@ module _ {before : ℕ} {h chunk out₀ memory out : List ℕ} {u : Unfinished} 
             goes_on faulty out' (left-of ∙ output-none s faulty out) (record { held = 0; least = 6 }) (holding-nothing after)
             (kept-long s (omega (arith, full-long, full-took.long))) (omega arith)
 
-        pub feed-found : found.found ≡ true
+        feed-found : found.found ≡ true
             → Fed before h chunk out₀ (answer_of (found_at (before + (used + 1) - u'.held) found) (used + 1) (record { held = 0; position = before + (used + 1) })) out' after
         feed-found is_found =
             let w = exactly.0 is_found in
@@ -181,15 +160,13 @@ module _ {before : ℕ} {h chunk out₀ memory out : List ℕ} {u : Unfinished} 
             left-of ∙ output-room s out room ∙ ap (λ (ds : List Delivery). over (payload_of ds) out) here ∙ ap (over (record_of s).payload) at.output in
             rw (o, told_of, decoded-room s (length out) room, here, there, full-long) (refl, (written, refl))
 
-        -- the same of the answer whose length is that of what is held
-        pub feed-held : found.found ≡ true
-            → Fed before h chunk out₀
-            (record (answer_of (found_at (before + (used + 1) - u'.held) found) (used + 1) (record { held = 0; position = before + (used + 1) })) { length = u'.held })
-            out'
-            after
-        feed-held is_found =
-            let (value, left_there) = feed-found is_found in
-            (same-length _ _ (found-long is_found) ∙ value, left_there)
+        -- the same, its position by its own length
+        pub feed-by-length : found.found ≡ true
+            → Fed before h chunk out₀ (answer_of (found_at (before + (used + 1) - found.length) found) (used + 1) (record { held = 0; position = before + (used + 1) })) out' after
+        feed-by-length is_found =
+            let At : ℕ → Type 0 =
+            λ n. Fed before h chunk out₀ (answer_of (found_at (before + (used + 1) - n) found) (used + 1) (record { held = 0; position = before + (used + 1) })) out' after in
+            subst⁻¹ At (found-long is_found) (feed-found is_found)
 
   pub feed-ends : used ≡ length chunk → Fed before h chunk out₀ (answer_of (without 0) used (record { held = u.held; position = before + used })) out memory
   unfolding outcome_of

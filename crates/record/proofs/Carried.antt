@@ -2,7 +2,7 @@
 use Prim.Native.Nat.{ℕ, ◌+◌, ◌*◌, ◌/◌, ◌%◌, ◌<◌, ◌≤◌}
 use native.Mathlib.Omega.{arith}
 use native.Mathlib.Decide.{ℕ_discrete}
-use mathlib.Core.Path.{◌≡◌, refl}
+use mathlib.Core.Path.{◌≡◌, refl, sym, ap, ◌∙◌}
 use mathlib.Core.Logic.{dite}
 use mathlib.Core.Bool.{false, ◌||◌}
 use mathlib.Core.List.{List, [], ◌∷◌}
@@ -14,11 +14,13 @@ use Rattle.basics.specs.Output.{too_short}
 use Rattle.basics.specs.Words.{has_bit, high_word}
 use Rattle.basics.proofs.Choice.{choose-by, neither}
 use Rattle.basics.proofs.Table.{Numbered, first_next, first-none, line-passed}
-use Rattle.stream.specs.Layout.{kind_of, header_length, frame_width, payload_length_of}
+use Rattle.stream.specs.Layout.{header_length, frame_width, payload_length_of}
 use Rattle.stream.specs.declared.Kind.{Kind}
 use Rattle.stream.specs.declared.Kind.TheVariants.{Packet, Datagram, Telegram, Unknown}
-use Rattle.record.specs.Record.{Record, frames_of, frames_in, stream_as, stream_of}
+pub use Rattle.record.specs.Record.{kind_in}
+use Rattle.record.specs.Record.{Record, frames_of, frames_in, stream_as, stream_with, stream_of}
 use Rattle.record.specs.Encode.{is_unknown, high_command, wrong_length, lines_as, unwritable, refusal, InRange, Writable}
+use Rattle.record.specs.Stage.{Fits}
 use Rattle.record.proofs.Lengths.{few-frames, right-length, length-stream}
 
 -- both bytes of a word are without their top bits
@@ -112,9 +114,6 @@ carried-length K unused r carried =
     length-stream K unused r carried.known
     (rw (le-ltb 127 (frames_in K r) carried.few, eq-eqb (length r.payload) (payload_length_of K (frames_in K r)) carried.sized))
 
-abbrev pub kind_in : Record → Kind
-kind_in r = kind_of r.header.version
-
 pub writable-carried : (r : Record) → Writable r → Carried (kind_in r) r
 unfolding unwritable
 writable-carried r w = carried_of (kind_in r) r w.range w.carried
@@ -133,6 +132,30 @@ carried-most Unknown r carried = omega (arith, carried.sized)
 -- no record that the wire can carry has more than 508 bytes of payload
 pub payload-most : (r : Record) → Writable r → length r.payload ≤ 508
 payload-most r w = carried-most (kind_in r) r (writable-carried r w)
+
+-- ── what isn't refused with 1 to 4
+
+pub lines-passed : (r : Record) → unwritable r ≡ 0 → Passed (kind_in r) r
+unfolding unwritable
+lines-passed r none = passed (kind_in r) r none
+
+pub few_frames : (r : Record) → unwritable r ≡ 0 → frames_in (kind_in r) r ≤ 127
+few_frames r none = few-frames (kind_in r) r.header.command (length r.payload) (lines-passed r none).payload
+
+-- its stream is as long as the kind and the frames say
+pub stream_length_as : (r : Record) → unwritable r ≡ 0 → length (stream_of r) ≡ header_length (kind_in r) + (frame_width (kind_in r) + 2) * frames_in (kind_in r) r
+unfolding stream_of stream_with
+stream_length_as r none = let p = lines-passed r none in length-stream (kind_in r) [] r p.known p.payload
+
+-- the frames that a record of the kind has
+pub frames-as : (K : Kind) (r now : Record) (n : ℕ) → n ≡ frames_in (kind_in now) now → kind_in now ≡ K → r ≡ now → n ≡ frames_in K r
+frames-as K r now n counted is same = counted ∙ ap (λ (x : Kind). frames_in x now) is ∙ ap (λ (x : Record). frames_in K x) (sym same)
+
+-- what `write` asks for
+pub fits : (r : Record) (room : ℕ) → unwritable r ≡ 0 → length (stream_of r) ≤ room → Fits (kind_in r) r room
+fits r room none held =
+    let p = lines-passed r none in
+    record { is = refl; known = p.known; low = p.command; sized = p.payload; held = omega (arith, stream_length_as r none) }
 
 -- ── the refusal, by the record and by the room
 

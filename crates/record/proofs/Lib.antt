@@ -2,7 +2,6 @@ pub mod StreamParts
 pub mod Lengths
 pub mod Frames
 pub mod Carried
-pub mod EncodeAnswers
 pub mod WholeAgain
 pub mod ReadBack
 pub mod Samples

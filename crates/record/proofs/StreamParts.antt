@@ -4,11 +4,11 @@ use native.Mathlib.Omega.{arith}
 use native.Mathlib.Numerals.{add-one, one-add}
 use native.Mathlib.Nat.{mul-zero, mul-suc}
 use mathlib.Core.Path.{◌≡◌, ap, sym, ◌∙◌}
-use mathlib.Core.List.{List, [], ◌∷◌, ◌++◌, append_assoc}
-use lib.ListN.{length, get_or, take, drop, set, length-append, length-drop}
+use mathlib.Core.List.{List, [], ◌∷◌, ◌++◌, append_assoc, append-nil}
+use lib.ListN.{length, take, drop, set, length-append, length-drop}
 use lib.Seq.{length-take-le, set_split, take_at, drop-drop}
 use Rattle.basics.specs.Bytes.{over}
-use Rattle.basics.proofs.Over.{over-over, over-behind, part, put}
+use Rattle.basics.proofs.Over.{over-set, over-over, over-behind, part, put}
 use Rattle.checksum.specs.Checksum.{checksum_of}
 use Rattle.septet.proofs.Laws.{length-low_bits}
 use Rattle.record.specs.Record.{with_checksum, with_septet, framed}
@@ -23,6 +23,15 @@ length-with_checksum block = simp length-append
 
 pub length-frame : (unused : ℕ) (block : List ℕ) → length (with_checksum (with_septet unused block)) ≡ length block + 2
 length-frame unused block = rw (length-with_checksum, length-with_septet) (omega arith)
+
+-- ── a byte behind other bytes
+
+pub stored : (p l₀ l : List ℕ) (v a : ℕ) → length p ≡ a → a < length l₀ → l ≡ over p l₀ → set l a v ≡ over (p ++ (v ∷ [])) l₀
+stored p l₀ l v a e h k =
+    let more : a + 1 ≡ length (p ++ (v ∷ [])) = omega (arith, length-append p (v ∷ [])) in
+    ap (λ (l : List ℕ). set l a v) (k ∙ ap (λ (n : ℕ). p ++ drop n l₀) e)
+    ∙ over-set p l₀ v a e h
+    ∙ ap (λ (n : ℕ). (p ++ (v ∷ [])) ++ drop n l₀) more
 
 -- ── checksums
 
@@ -47,14 +56,22 @@ sum-set l n sum h e =
 
 -- ── frames
 
+-- one frame more
+pub framed-more : (width n : ℕ) (payload : List ℕ)
+    → framed width (suc n) [] payload ≡ framed width n [] payload ++ with_checksum (with_septet 0 (take width (drop (width * n) payload)))
+unfolding framed
+framed-more width zero payload = rw (append-nil, mul-zero)
+framed-more width (suc n) payload =
+    let next : width + width * n ≡ width * suc n = omega (arith, mul-suc width n) in
+    let first = with_checksum (with_septet 0 (take width payload)) in
+    let others = framed width n [] (drop width payload) in
+    ap (λ (l : List ℕ). first ++ l) (framed-more width n (drop width payload))
+    ∙ sym (append_assoc first others _)
+    ∙ ap (λ (l : List ℕ). (first ++ others) ++ with_checksum (with_septet 0 (take width l))) (drop-drop (width * n) width payload ∙ ap (λ (k : ℕ). drop k payload) next)
+
 -- one frame fewer
 pub fewer : (width n : ℕ) → 0 < n → width * n ≡ width * (n - 1) + width
 fewer width n h = let e : n ≡ suc (n - 1) = omega arith in ap (λ (m : ℕ). width * m) e ∙ mul-suc width (n - 1)
-
-pub framed-step : (width n : ℕ) (unused payload : List ℕ) → 0 < n
-    → framed width n unused payload ≡ with_checksum (with_septet (get_or unused 0 0) (take width payload)) ++ framed width (n - 1) (drop 1 unused) (drop width payload)
-unfolding framed
-framed-step width n unused payload h = let e : n ≡ suc (n - 1) = omega arith in ap (λ (m : ℕ). framed width m unused payload) e
 
 pub framed-length : (width n : ℕ) (unused payload : List ℕ) → width * n ≤ length payload → length (framed width n unused payload) ≡ (width + 2) * n
 unfolding framed

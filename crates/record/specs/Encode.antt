@@ -5,10 +5,10 @@ use Rattle.basics.specs.Choice.{first}
 use Rattle.basics.specs.Output.{too_short, answered, output_with}
 use Rattle.basics.specs.declared.Written.{Written}
 use Rattle.basics.specs.Words.{high_word}
-use Rattle.stream.specs.Layout.{kind_of, payload_length_of}
+use Rattle.stream.specs.Layout.{payload_length_of}
 use Rattle.stream.specs.declared.Kind.{Kind}
 use Rattle.stream.specs.declared.Kind.TheVariants.{Packet, Datagram, Telegram, Unknown}
-use Rattle.record.specs.Record.{Record, frames_of, stream_of}
+use Rattle.record.specs.Record.{Record, kind_in, frames_of, stream_of}
 
 -- 1: the version is none of 10, 20, 30, 31 hex
 abbrev pub is_unknown : Kind → Bool
@@ -39,7 +39,7 @@ lines_as K r =
 
 -- the first of the lines 1 to 4 that applies, or 0: what the wire can't carry
 unfoldable pub unwritable : Record → ℕ
-unwritable r = first (lines_as (kind_of r.header.version) r)
+unwritable r = first (lines_as (kind_in r) r)
 
 -- each field is a number of its type
 pub record InRange (r : Record) : Type 0 where
@@ -56,7 +56,7 @@ pub record Writable (r : Record) : Type 0 where
 
 -- the refusal for an output of the given room, or 0; the last line is 5: the output is shorter than the stream
 unfoldable pub refusal : Record → ℕ → ℕ
-refusal r room = first (lines_as (kind_of r.header.version) r ++ (too_short room (stream_of r) ∷ []))
+refusal r room = first (lines_as (kind_in r) r ++ (too_short room (stream_of r) ∷ []))
 
 -- what is answered for an output of the given room
 abbrev pub encoding_of : Record → ℕ → Written

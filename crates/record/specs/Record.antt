@@ -15,6 +15,10 @@ pub record Record : Type 0 where
   pub header : Header
   pub payload : List ℕ
 
+-- its kind, by its version
+abbrev pub kind_in : Record → Kind
+kind_in r = kind_of r.header.version
+
 -- ── reading
 
 -- the payload of n frames, with its top bits put back
@@ -93,7 +97,7 @@ stream_as K unused r =
 
 -- the stream of a record, with the unused septet bits of each of its blocks; checksums cover the bytes as they stand
 unfoldable pub stream_with : List ℕ → Record → List ℕ
-stream_with unused r = stream_as (kind_of r.header.version) unused r
+stream_with unused r = stream_as (kind_in r) unused r
 
 -- the stream that writing gives for a record; request No. 3: "Writing still puts zeros there"
 unfoldable pub stream_of : Record → List ℕ
@@ -109,4 +113,4 @@ pub record UnusedAs (K : Kind) (unused : List ℕ) (r : Record) : Type 0 where
 
 -- and of a record by its own version
 abbrev pub UnusedFor : List ℕ → Record → Type 0
-UnusedFor unused r = UnusedAs (kind_of r.header.version) unused r
+UnusedFor unused r = UnusedAs (kind_in r) unused r

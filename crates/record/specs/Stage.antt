@@ -1,13 +1,14 @@
 -- What the private functions under `encode` ask for. No public contract cites this file.
-use Rattle.std.specs.Prelude.{ℕ, ◌+◌, ◌*◌, ◌≤◌, ◌≡◌, false}
+use Rattle.std.specs.Prelude.{ℕ, ◌+◌, ◌*◌, ◌≤◌, ◌≡◌, false, length}
 use Rattle.stream.specs.Layout.{header_length, frame_width}
 use Rattle.stream.specs.declared.Kind.{Kind}
 use Rattle.record.specs.Encode.{is_unknown, high_command, wrong_length}
-use Rattle.record.specs.Record.{frames_of}
+use Rattle.record.specs.Record.{Record, kind_in, frames_in}
 
--- a command and a payload's length that fit the kind, and an output with room for the stream
-pub record Fits (K : Kind) (command n room : ℕ) : Type 0 where
+-- a record of the kind whose command and payload's length fit it, and an output with room for the stream
+pub record Fits (K : Kind) (r : Record) (room : ℕ) : Type 0 where
+  pub is : kind_in r ≡ K
   pub known : is_unknown K ≡ false
-  pub low : high_command K command ≡ false
-  pub sized : wrong_length K command n ≡ false
-  pub held : header_length K + (frame_width K + 2) * frames_of K command n ≤ room
+  pub low : high_command K r.header.command ≡ false
+  pub sized : wrong_length K r.header.command (length r.payload) ≡ false
+  pub held : header_length K + (frame_width K + 2) * frames_in K r ≤ room

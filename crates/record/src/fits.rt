@@ -1,103 +1,71 @@
-// What fits a record of a kind: the tests of the refusals 1 to 4, and the length of its stream.
-ghost use Rattle.std.specs.Prelude.{◌≡◌, ◌+◌, ◌*◌, ◌≤◌};
-ghost use Rattle.basics.specs.Choice.{first};
-ghost use Rattle.basics.specs.Words.{high_word};
-ghost use Rattle.stream.specs.Layout.{header_length, frame_width};
-ghost use Rattle.record.specs.Record.{frames_of};
-ghost use Rattle.record.specs.Encode.{is_unknown, high_command, wrong_length, lines_as};
+// What fits a record: the tests of the refusals 1 to 4, and the length of its stream.
+ghost use Rattle.std.specs.Prelude.{◌≡◌, length};
+ghost use Rattle.basics.specs.Refusal.{number_in};
+ghost use Rattle.record.specs.Record.{kind_in, frames_in, stream_of};
+ghost use Rattle.record.specs.Encode.{high_command, wrong_length, unwritable};
 
-use crate::Header;
+use crate::RecordRef;
+use basics::Refusal;
 use stream::Kind;
 
-fn is_unknown(kind: Kind) -> bool
-    ensures { result ≡ is_unknown kind }
-{
-    match kind {
-        Kind::Packet => false,
-        Kind::Datagram => false,
-        Kind::Telegram => false,
-        Kind::Unknown => true,
+impl<'a> RecordRef<'a> {
+    // Bits of the command that the header of its kind has no room for are set.
+    fn has_high_command(&self) -> bool
+        ensures { result ≡ high_command (kind_in self.now) self.now.header.command }
+    {
+        match self.kind {
+            Kind::Packet | Kind::Datagram => basics::high_word(self.header.command),
+            Kind::Telegram => self.header.command > 0x7f,
+            Kind::Unknown => false,
+        }
     }
-}
 
-// Bit 7 or 15 is set.
-fn high_word(word: u16) -> bool
-    ensures { result ≡ high_word word }
-{
-    if word / 128 % 2 == 1 {
-        true
-    } else {
-        word / 32768 % 2 == 1
+    // The frame count, by the payload's length or by the command.
+    #[tactic(auto, unfolding(crate::specs::Record::frames_of))]
+    pub fn frames(&self) -> usize
+        ensures { result ≡ frames_in (kind_in self.now) self.now }
+    {
+        match self.kind {
+            Kind::Packet => self.payload.len() / 4,
+            Kind::Telegram => stream::telegram_frames(self.header.command),
+            Kind::Datagram | Kind::Unknown => 0,
+        }
     }
-}
 
-fn high_command(kind: Kind, command: u16) -> bool
-    ensures { result ≡ high_command kind command }
-{
-    match kind {
-        Kind::Packet => high_word(command),
-        Kind::Datagram => high_word(command),
-        Kind::Telegram => command > 0x7f,
-        Kind::Unknown => false,
+    // The payload isn't as long as its frames, or there are too many of them.
+    fn has_wrong_length(&self) -> bool
+        ensures { result ≡ wrong_length (kind_in self.now) self.now.header.command (length self.now.payload) }
+    {
+        let frames = self.frames();
+        frames > 127 || self.payload.len() != stream::payload_length(self.kind, frames as u8)
     }
-}
 
-// The frame count of a record, by its command and its payload's length.
-#[tactic(auto, unfolding(crate::specs::Record::frames_of))]
-pub fn frames_of(kind: Kind, command: u16, count: usize) -> usize
-    ensures { result ≡ frames_of kind command count }
-{
-    match kind {
-        Kind::Packet => count / 4,
-        Kind::Datagram => 0,
-        Kind::Telegram => stream::telegram_frames(command),
-        Kind::Unknown => 0,
+    // The first of the refusals 1 to 4 that applies.
+    #[tactic(auto, unfolding(crate::specs::Encode::unwritable, basics::specs::Choice::choose))]
+    pub fn check(&self) -> Result<(), Refusal>
+        ensures { number_in result ≡ unwritable self.now }
+    {
+        if self.kind == Kind::Unknown {
+            return Err(Refusal::UnknownVersion);
+        }
+        if basics::high_word(self.header.destination) || basics::high_word(self.header.source) {
+            return Err(Refusal::HighAddress);
+        }
+        if self.has_high_command() {
+            return Err(Refusal::HighCommand);
+        }
+        if self.has_wrong_length() {
+            return Err(Refusal::WrongLength);
+        }
+        Ok(())
     }
-}
 
-fn wrong_length(kind: Kind, command: u16, count: usize) -> bool
-    ensures { result ≡ wrong_length kind command count }
-{
-    let frames = frames_of(kind, command, count);
-    if frames > 127 {
-        return true;
-    }
-    count != stream::payload_length(kind, frames as u8)
-}
-
-// The number of the first of the lines 1 to 4 that applies to a record, or 0.
-#[tactic(auto, unfolding(basics::specs::Choice::choose))]
-pub fn unwritable(kind: Kind, header: Header, payload: &[u8]) -> u32
-    ensures { result ≡ first (lines_as kind (record { header = header; payload = payload.now })) }
-{
-    if is_unknown(kind) {
-        return 1;
-    }
-    if high_word(header.destination) {
-        return 2;
-    }
-    if high_word(header.source) {
-        return 2;
-    }
-    if high_command(kind, header.command) {
-        return 3;
-    }
-    if wrong_length(kind, header.command, payload.len()) {
-        return 4;
-    }
-    0
-}
-
-// The length of the stream of so many frames.
-#[tactic(auto, unfolding(stream::specs::Layout::header_length, stream::specs::Layout::frame_width))]
-pub fn stream_length(kind: Kind, frames: usize) -> usize
-    requires { frames ≤ 127 }
-    ensures { result ≡ header_length kind + (frame_width kind + 2) * frames }
-{
-    match kind {
-        Kind::Packet => 10 + 6 * frames,
-        Kind::Datagram => 16 + 2 * frames,
-        Kind::Telegram => 8 + 9 * frames,
-        Kind::Unknown => 6 + 2 * frames,
+    // The length of the stream of a record that none of them refuses.
+    #[tactic(auto, using(crate::proofs::Carried::few_frames, crate::proofs::Carried::stream_length_as))]
+    pub fn stream_length(&self) -> usize
+        requires { unwritable self.now ≡ 0 }
+        ensures { result ≡ length (stream_of self.now) }
+    {
+        stream::stream_length(self.kind, self.frames() as u8)
     }
 }

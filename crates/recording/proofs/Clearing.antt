@@ -7,7 +7,7 @@ use lib.ListN.{length, get_or, take, drop, set, length-set, length-append, lengt
 use lib.Seq.{set_split, take_at, drop_at, drop-cons, drop-set-lt, get_or-drop, length-take-le, take-length}
 use Rattle.basics.specs.Bytes.{over}
 use Rattle.basics.proofs.Bytes.{take_below}
-use Rattle.basics.proofs.Over.{copied, part, lent}
+use Rattle.basics.proofs.Over.{part, lent}
 use Rattle.checksum.specs.Checksum.{checksum_of}
 use Rattle.septet.specs.Septet.{with_top_bits}
 use Rattle.stream.specs.Layout.{kind, header_length, frame_width, frame_count, length_as}
@@ -111,10 +111,6 @@ module _ (s : List ℕ) (w : Whole s) where
 -- ── the stream copied to an output, and cleared there
 
 module _ (s out : List ℕ) where
-  -- all its bytes copied to the start, and what lies behind kept
-  pub copy_is : (new : List ℕ) → new ≡ take (length s) s ++ drop (length s) out → new ≡ over s out
-  copy_is new k = copied s s out new refl k
-
   pub copy-whole : Whole s → Whole (over s out)
   copy-whole w = ap (λ (v : Validation). v.verdict) (whole-more s (drop (length s) out) w).0 ∙ w
 

@@ -25,42 +25,42 @@ unfolding streams
 remaining-none s start e = ap (λ (ds : List Delivery). streams (contents_of ds)) e
 
 module _ (s : List ℕ) (start : ℕ) (span : Span) (found : FoundAt s start span) where
-  remaining-found : remaining s start ≡ stream_of (record_of (drop span.position s)) ++ remaining s (span.position + span.length)
+  remaining-found : remaining s start ≡ stream_of (record_of (drop span.position s)) ++ remaining s (span.position + span.stream.length)
   unfolding streams
   remaining-found = ap (λ (ds : List Delivery). streams (contents_of ds)) found.deliveries
 
-  pub found-length : length (stream_of (record_of (drop span.position s))) ≡ span.length
+  pub found-length : length (stream_of (record_of (drop span.position s))) ≡ span.stream.length
   found-length = whole_length (drop span.position s) found.whole-at.whole ∙ sym found.whole-at.sized
 
   -- the bytes that it stands on
   abbrev stretch : List ℕ
-  stretch = take (span.position + span.length - span.position) (drop span.position s)
+  stretch = take (span.position + span.stream.length - span.position) (drop span.position s)
 
-  stretch-length : length stretch ≡ span.length
+  stretch-length : length stretch ≡ span.stream.length
   stretch-length =
-      length-take-le (span.position + span.length - span.position) (drop span.position s) (omega (arith, length-drop span.position s, found.inside))
+      length-take-le (span.position + span.stream.length - span.position) (drop span.position s) (omega (arith, length-drop span.position s, found.inside))
       ∙ omega arith
 
   -- they are that stream and no more
-  stretch-more : stretch ++ drop span.length (drop span.position s) ≡ drop span.position s
+  stretch-more : stretch ++ drop span.stream.length (drop span.position s) ≡ drop span.position s
   stretch-more =
-      let size : span.position + span.length - span.position ≡ span.length = omega arith in
-      ap (λ (n : ℕ). take n (drop span.position s) ++ drop span.length (drop span.position s)) size ∙ take-append-drop span.length (drop span.position s)
+      let size : span.position + span.stream.length - span.position ≡ span.stream.length = omega arith in
+      ap (λ (n : ℕ). take n (drop span.position s) ++ drop span.stream.length (drop span.position s)) size ∙ take-append-drop span.stream.length (drop span.position s)
 
   stretch-whole : (validation_of stretch).verdict ≡ 0
   stretch-whole =
-      whole-alone stretch (drop span.length (drop span.position s)) (rw stretch-more found.whole-at.whole)
+      whole-alone stretch (drop span.stream.length (drop span.position s)) (rw stretch-more found.whole-at.whole)
       (rw stretch-more (sym found.whole-at.sized ∙ sym stretch-length))
 
   stretch-said : (validation_of stretch ≡ validation_of (drop span.position s)) × (record_of stretch ≡ record_of (drop span.position s))
   stretch-said =
-      let (said, read) = whole-more stretch (drop span.length (drop span.position s)) stretch-whole in
+      let (said, read) = whole-more stretch (drop span.stream.length (drop span.position s)) stretch-whole in
       (sym said ∙ ap validation_of stretch-more, sym read ∙ ap record_of stretch-more)
 
   pub stretch-record : record_of stretch ≡ record_of (drop span.position s)
   stretch-record = stretch-said.1
 
-  pub stretch-one : (room : ℕ) → span.length ≤ room → OneStream stretch span.unused_septets room
+  pub stretch-one : (room : ℕ) → span.stream.length ≤ room → OneStream stretch span.stream.unused_septets room
   stretch-one room fits =
       record {
         whole = stretch-whole;
@@ -69,13 +69,13 @@ module _ (s : List ℕ) (start : ℕ) (span : Span) (found : FoundAt s start spa
         held = omega (arith, stretch-length);
       }
 
-  pub found-counts : length (remaining s start) ≡ span.length + length (remaining s (span.position + span.length))
+  pub found-counts : length (remaining s start) ≡ span.stream.length + length (remaining s (span.position + span.stream.length))
   found-counts = ap length remaining-found ∙ rw (length-append, found-length)
 
   -- what is written so far and the stream that is found are no longer than all
-  pub found-fits : (done : List ℕ) → done ++ remaining s start ≡ normalized s → length done + span.length ≤ length (normalized s)
+  pub found-fits : (done : List ℕ) → done ++ remaining s start ≡ normalized s → length done + span.stream.length ≤ length (normalized s)
   found-fits done e = omega (arith, ap length e, length-append done (remaining s start), found-counts)
 
   pub found-next : (done : List ℕ) → done ++ remaining s start ≡ normalized s
-      → (done ++ stream_of (record_of (drop span.position s))) ++ remaining s (span.position + span.length) ≡ normalized s
+      → (done ++ stream_of (record_of (drop span.position s))) ++ remaining s (span.position + span.stream.length) ≡ normalized s
   found-next done e = rw append_assoc (ap (λ (l : List ℕ). done ++ l) (sym remaining-found) ∙ e)

@@ -1,8 +1,11 @@
 -- The next record of a recording: document 01's *next*, with its refusals 6 and 5.
-use Rattle.std.specs.Prelude.{ℕ, true, false, List, [], ◌∷◌, ltb, eqb, length}
+use Rattle.std.specs.Prelude.{ℕ, true, false, List, [], ◌∷◌, ltb, eqb, length, Option, Some, None, Result, Ok, Err}
 use Rattle.basics.specs.Choice.{choose, first}
 use Rattle.basics.specs.Output.{too_short, output_with}
+use Rattle.basics.specs.Refusal.{number}
+use Rattle.basics.specs.declared.refusal.Refusal.{Refusal}
 use Rattle.recording.specs.Recording.{Delivery, deliveries_after}
+use Rattle.recording.specs.declared.Delivered.{Delivered}
 use Rattle.recording.specs.declared.Found.{Found}
 
 -- no record: all is zero but the number
@@ -26,6 +29,20 @@ first_of (d ∷ rest) =
 abbrev pub payload_of : List Delivery → List ℕ
 payload_of [] = []
 payload_of (d ∷ rest) = d.contents.payload
+
+-- the answer as C gets it
+abbrev pub found_as : Result (Option Delivered) Refusal → Found
+found_as (Ok (Some delivered)) =
+    record {
+      number = 0;
+      found = true;
+      position = delivered.position;
+      length = delivered.length;
+      header = delivered.contents.header;
+      payload_length = delivered.contents.payload_length;
+    }
+found_as (Ok None) = without 0
+found_as (Err refusal) = without (number refusal)
 
 -- 6: the starting place is greater than the input length; then 5: the output is shorter than the payload
 unfoldable pub refusal : List ℕ → ℕ → ℕ → ℕ

@@ -13,7 +13,7 @@ fn septet(block: &mut [u8], place: usize, limit: u8)
     ensures { block.new ≡ over (cleared place limit block.old) block.old }
 {
     let end = place + 1;
-    block[place] = block[place] % limit;
+    block[place] %= limit;
     block[end] = checksum::checksum(&block[..end]);
 }
 
@@ -22,12 +22,8 @@ fn frames(frames: &mut [u8], count: usize)
     requires { (6 * count ≤ length frames.old) × LowTo (6 * count) frames.old }
     ensures { frames.new ≡ over (framed 4 count [] (unframed 4 count frames.old)) frames.old }
 {
-    let mut left = count;
-    let mut at = 0;
-    while 0 < left {
-        septet(&mut frames[at..], 4, 16);
-        at += 6;
-        left -= 1;
+    for i in 0..count {
+        septet(&mut frames[6 * i..], 4, 16);
     }
 }
 
@@ -42,7 +38,6 @@ pub fn stream(stream: &mut [u8])
             frames(&mut stream[10..], count);
         }
         Kind::Datagram => septet(&mut stream[1..], 13, 64),
-        Kind::Telegram => {}
-        Kind::Unknown => {}
+        Kind::Telegram | Kind::Unknown => {}
     }
 }

@@ -5,7 +5,7 @@ ghost use Rattle.std.specs.Prelude.{◌≡◌, length, drop};
 ghost use Rattle.basics.specs.Output.{output_for};
 ghost use Rattle.record.specs.Record.{record_of};
 ghost use Rattle.recording.specs.Decode.{decoded_of, decoded_after};
-ghost use Rattle.recording.specs.Next.{next_of, payload_after};
+ghost use Rattle.recording.specs.Next.{found_as, next_of, payload_after};
 ghost use Rattle.recording.specs.Normalize.{normalizing_of, output_after};
 ghost use Rattle.recording.specs.Stage.{WholeAt, delivered_of};
 
@@ -14,14 +14,15 @@ mod read;
 mod rewrite;
 mod search;
 
-use basics::Written;
+use basics::{Refusal, Written};
+use read::Contents;
 use record::Header;
-use search::{Search, Span};
+use search::Span;
 
 // The next record: the position of its 0xAA in the input, how long its stream is, its header, and how long its payload is.
 // Where there is none, or the call is refused, every field but the number is zero.
 #[repr(C)]
-#[derive(Clone, Copy)]
+#[derive(Clone, Copy, Default)]
 pub struct Found {
     pub number: u32,
     pub found: bool,
@@ -31,45 +32,48 @@ pub struct Found {
     pub payload_length: usize,
 }
 
-// No record, with a refusal's number or 0.
-fn without(number: u32) -> Found
-    ensures { result ≡ Rattle.recording.specs.Next.without number }
-{
-    Found {
-        number,
-        found: false,
-        position: 0,
-        length: 0,
-        header: Header {
-            version: 0,
-            destination: 0,
-            source: 0,
-            command: 0,
-        },
-        payload_length: 0,
+// A record that was read: where its stream stands, how long that is, and what the record is beside its payload's bytes.
+#[derive(Clone, Copy)]
+struct Delivered {
+    position: usize,
+    length: usize,
+    contents: Contents,
+}
+
+impl From<Result<Option<Delivered>, Refusal>> for Found {
+    ghost from_gives = { λ answer found. found ≡ found_as answer };
+
+    fn from(answer: Result<Option<Delivered>, Refusal>) -> Found {
+        match answer {
+            Ok(Some(delivered)) => Found {
+                number: 0,
+                found: true,
+                position: delivered.position as u64,
+                length: delivered.length,
+                header: delivered.contents.header,
+                payload_length: delivered.contents.payload_length,
+            },
+            Ok(None) => Found::default(),
+            Err(refusal) => Found {
+                number: refusal.number(),
+                ..Found::default()
+            },
+        }
     }
 }
 
 // Hands out the record of a whole stream.
-fn deliver(input: &[u8], span: Span, out: &mut [u8]) -> Found
+fn deliver(input: &[u8], span: Span, out: &mut [u8]) -> Result<Option<Delivered>, Refusal>
     requires { WholeAt input.now span }
-    ensures value { result ≡ delivered_of input.now span.position (length out.old) }
+    ensures value { found_as result ≡ delivered_of input.now span.position (length out.old) }
     ensures out_after { out.new ≡ output_for (record_of (drop span.position input.now)).payload out.old }
 {
-    let position = span.position;
-    let header = read::header(&input[position..]);
-    let size = read::payload(&input[position..], out);
-    if out.len() < size {
-        return without(5);
-    }
-    Found {
-        number: 0,
-        found: true,
-        position: position as u64,
-        length: span.length,
-        header,
-        payload_length: size,
-    }
+    let contents = read::record(&input[span.position..], out)?;
+    Ok(Some(Delivered {
+        position: span.position,
+        length: span.stream.length,
+        contents,
+    }))
 }
 
 // The record of the whole stream that `input` begins with, its payload at the start of `out`.
@@ -78,19 +82,17 @@ pub fn decode(input: &[u8], out: &mut [u8]) -> Found
     ensures value { result ≡ decoded_of input.now (length out.old) }
     ensures out_after { out.new ≡ decoded_after input.now out.old }
 {
-    let stop = stream::first_fault(input);
-    if stop.verdict != 0 {
-        return without(0);
+    match stream::first_fault(input) {
+        Ok(stream) => Found::from(deliver(
+            input,
+            Span {
+                position: 0,
+                stream,
+            },
+            out,
+        )),
+        Err(_) => Found::from(Ok(None)),
     }
-    deliver(
-        input,
-        Span {
-            position: 0,
-            length: stop.offset,
-            unused_septets: stop.unused_septets,
-        },
-        out,
-    )
 }
 
 // The record of the first whole stream at or after `start`, its payload at the start of `out`.
@@ -100,11 +102,11 @@ pub fn next(input: &[u8], start: usize, out: &mut [u8]) -> Found
     ensures out_after { out.new ≡ payload_after input.now start out.old }
 {
     if input.len() < start {
-        return without(6);
+        return Found::from(Err(Refusal::StartPastEnd));
     }
     match search::first_whole(input, start) {
-        Search::At(span) => deliver(input, span, out),
-        Search::Nothing => without(0),
+        Some(span) => Found::from(deliver(input, span, out)),
+        None => Found::from(Ok(None)),
     }
 }
 
@@ -114,5 +116,5 @@ pub fn normalize(input: &[u8], out: &mut [u8]) -> Written
     ensures value { result ≡ normalizing_of input.now (length out.old) }
     ensures out_after { out.new ≡ output_after input.now out.old }
 {
-    rewrite::normalize(input, out)
+    Written::from(rewrite::normalize(input, out))
 }

@@ -1,13 +1,14 @@
 // A recording's records written again, end to end.
 ghost use Rattle.std.specs.Prelude.{◌≡◌, ◌≤◌, length};
 ghost use Rattle.basics.specs.Bytes.{over};
+ghost use Rattle.basics.specs.Output.{written_as};
 ghost use Rattle.record.specs.Record.{record_of, stream_of};
 ghost use Rattle.recording.specs.Normalize.{normalized, normalizing_of, output_after};
 ghost use Rattle.recording.specs.Stage.{OneStream};
 
 use crate::clear;
-use crate::search::{Search, first_whole};
-use basics::Written;
+use crate::search::first_whole;
+use basics::Refusal;
 
 // How long the normalized recording is.
 fn measure(input: &[u8]) -> usize
@@ -15,15 +16,11 @@ fn measure(input: &[u8]) -> usize
 {
     let mut at = 0;
     let mut total = 0;
-    loop {
-        match first_whole(input, at) {
-            Search::At(span) => {
-                total += span.length;
-                at = span.position + span.length;
-            }
-            Search::Nothing => break total,
-        }
+    while let Some(span) = first_whole(input, at) {
+        total += span.stream.length;
+        at = span.position + span.stream.length;
     }
+    total
 }
 
 // Writes the record of one whole stream. Its bytes are what writing gives, exactly if no unused septet bit is set in them (law
@@ -46,36 +43,26 @@ fn all(input: &[u8], out: &mut [u8]) -> usize
 {
     let mut at = 0;
     let mut to = 0;
-    loop {
-        match first_whole(input, at) {
-            Search::At(span) => {
-                let position = span.position;
-                let length = span.length;
-                at = position + length;
-                one(&input[position..at], span.unused_septets, &mut out[to..]);
-                to += length;
-            }
-            Search::Nothing => break to,
-        }
+    while let Some(span) = first_whole(input, at) {
+        at = span.position + span.stream.length;
+        one(
+            &input[span.position..at],
+            span.stream.unused_septets,
+            &mut out[to..],
+        );
+        to += span.stream.length;
     }
+    to
 }
 
-// The records written to an output that has room for them.
-pub fn normalize(input: &[u8], out: &mut [u8]) -> Written
-    ensures value { result ≡ normalizing_of input.now (length out.old) }
+// Writes the records to an output that has room for them, and returns how many bytes they take.
+pub fn normalize(input: &[u8], out: &mut [u8]) -> Result<usize, Refusal>
+    ensures value { written_as result ≡ normalizing_of input.now (length out.old) }
     ensures out_after { out.new ≡ output_after input.now out.old }
 {
     // No normalized recording is longer than the recording, so only a shorter output is measured against.
-    if out.len() < input.len() {
-        if out.len() < measure(input) {
-            return Written {
-                number: 5,
-                length: 0,
-            };
-        }
+    if out.len() < input.len() && out.len() < measure(input) {
+        return Err(Refusal::OutputTooShort);
     }
-    Written {
-        number: 0,
-        length: all(input, out),
-    }
+    Ok(all(input, out))
 }

@@ -27,13 +27,13 @@ fn fields(rt: &HostRuntime, question: &[u8], bytes: &[u8]) {
     let header = part::header(question);
     match part::byte(question, 0) {
         b'c' => field::byte(rt, checksum::checksum(bytes)),
-        b'x' => answer::septets(rt, septet::extract(part::seven(bytes), n)),
-        b'j' => answer::septets(rt, septet::inject(part::seven(bytes), n, header.version)),
+        b'x' => answer::septets(rt, septet::extract(part::array(bytes), n)),
+        b'j' => answer::septets(rt, septet::inject(part::array(bytes), n, header.version)),
         b'v' => answer::validate(rt, bytes),
         b'e' => answer::encode(rt, header, bytes, n),
         b'l' => answer::long_packet(rt, header, bytes),
         b'r' => answer::row(rt, header, bytes),
-        b'i' => field::signed(rt, record::value(part::six(bytes))),
+        b'i' => field::say(rt, record::value(part::array(bytes))),
         b'n' => answer::next(rt, bytes, n, m),
         b'w' => answer::receive(rt, bytes, n),
         b'W' => answer::receive_last(rt, bytes, n, m),
@@ -46,7 +46,7 @@ fn fields(rt: &HostRuntime, question: &[u8], bytes: &[u8]) {
         b't' => answer::temperature(rt, bytes),
         b'k' => answer::slave_id(rt, slave_id::read(header, bytes)),
         b'K' => answer::write_slave_id(rt, header, bytes, n),
-        _ => field::say(rt, b"unknown"),
+        _ => field::say(rt, "unknown"),
     }
 }
 
@@ -58,30 +58,29 @@ fn line(rt: &HostRuntime, question: &[u8]) {
     field::text(rt, b"\n");
 }
 
-// Answers the question at a place, and gives the place behind it: the end of the input, where the question is cut off.
-fn line_at(rt: &HostRuntime, input: &[u8], at: usize) -> usize
-    requires { at < length input.now }
-    ensures { at < result }
+// Answers the first question, and gives what stands behind it: nothing, where the question is cut off.
+fn first_line<'a>(rt: &HostRuntime, input: &'a [u8]) -> &'a [u8]
+    requires { 0 < length input.now }
+    ensures { length result.now < length input.now }
 {
-    let rest = &input[at..];
-    let size = HEAD + (part::word(rest, 2) as usize) + (part::word(rest, 4) as usize);
-    if rest.len() < size {
+    let size = HEAD + part::word(input, 2) as usize + part::word(input, 4) as usize;
+    if input.len() < size {
         field::text(rt, b"cut off\n");
-        return input.len();
+        return &[];
     }
-    line(rt, &rest[0..size]);
-    at + size
+    let (question, rest) = input.split_at(size);
+    line(rt, question);
+    rest
 }
 
 fn lines(rt: &HostRuntime, input: &[u8]) {
-    let mut at = 0;
-    while at < input.len() {
-        at = line_at(rt, input, at);
+    let mut rest = input;
+    while !rest.is_empty() {
+        rest = first_line(rt, rest);
     }
 }
 
 fn main(rt: HostRuntime) {
-    let mut input = [0u8; 65536];
-    let size = stdio::read_input(&rt, &mut input);
-    lines(&rt, &input[..size]);
+    let mut buffer = [0u8; 65536];
+    lines(&rt, stdio::read_input(&rt, &mut buffer));
 }

@@ -3,33 +3,47 @@ use record::Header;
 
 // The first bytes, or all where there are no more.
 pub fn first(s: &[u8], count: usize) -> &[u8] {
-    if count <= s.len() { &s[0..count] } else { s }
+    &s[..count.min(s.len())]
 }
 
-pub fn first_mut(s: &mut [u8], n: usize) -> &mut [u8] {
-    if n <= s.len() { &mut s[0..n] } else { s }
+pub fn first_mut(s: &mut [u8], count: usize) -> &mut [u8] {
+    let count = count.min(s.len());
+    &mut s[..count]
 }
 
 // What stands behind the first bytes; all of it where there are fewer.
 pub fn behind(s: &[u8], count: usize) -> &[u8] {
-    if count <= s.len() { &s[count..] } else { s }
+    s.get(count..).unwrap_or(s)
 }
 
 // A byte, or zero behind the end.
 pub fn byte(s: &[u8], at: usize) -> u8 {
-    if at < s.len() { s[at] } else { 0 }
+    s.get(at).copied().unwrap_or(0)
+}
+
+// The bytes, with zeros behind them where there are fewer; zeros alone where there are more.
+pub fn array<const N: usize>(s: &[u8]) -> [u8; N] {
+    let mut array = [0u8; N];
+    if s.len() <= N {
+        array[..s.len()].copy_from_slice(s);
+    }
+    array
+}
+
+// The bytes from a place on, with zeros behind the end.
+fn array_at<const N: usize>(s: &[u8], at: usize) -> [u8; N] {
+    array(first(behind(s, at), N))
 }
 
 // Two bytes, the low one first.
 pub fn word(s: &[u8], at: usize) -> u16 {
-    let rest = behind(s, at);
-    (byte(rest, 0) as u16) + 256 * (byte(rest, 1) as u16)
+    u16::from_le_bytes(array_at(s, at))
 }
 
-// Four bytes, the low one first.
+// Four bytes, the low one first. A half that begins past the end has the bytes from the start in its place (`behind`).
 pub fn long(s: &[u8], at: usize) -> u32 {
     let rest = behind(s, at);
-    (word(rest, 0) as u32) + 65536 * (word(rest, 2) as u32)
+    word(rest, 0) as u32 + 65536 * (word(rest, 2) as u32)
 }
 
 // The header in a head.
@@ -40,20 +54,4 @@ pub fn header(s: &[u8]) -> Header {
         source: word(s, 12),
         command: word(s, 14),
     }
-}
-
-pub fn six(s: &[u8]) -> [u8; 6] {
-    let mut payload = [0u8; 6];
-    if s.len() <= 6 {
-        payload[..s.len()].copy_from_slice(s);
-    }
-    payload
-}
-
-pub fn seven(s: &[u8]) -> [u8; 7] {
-    let mut block = [0u8; 7];
-    if s.len() <= 7 {
-        block[..s.len()].copy_from_slice(s);
-    }
-    block
 }

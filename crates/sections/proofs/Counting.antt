@@ -10,6 +10,7 @@ use mathlib.Core.List.{List, [], ◌∷◌}
 use lib.ListN.{length, get_or, drop, length-drop}
 use lib.Seq.{drop-drop}
 use borrow.Author.Tests.{lt-ltb, le-ltb}
+use Rattle.std.specs.Prelude.{None, Some}
 use Rattle.basics.specs.Choice.{choose}
 use Rattle.sections.specs.Section.{section_length, cut, some_short}
 use Rattle.sections.specs.Stage.{chain_count, payload_count}
@@ -20,11 +21,11 @@ empty [] e = refl
 empty (x ∷ p) e = absurd (omega arith)
 
 module _ (p : List ℕ) (count : ℕ) where
-  pub chain-end : length p ≡ 0 → chain_count p count ≡ record { number = 0; count = count }
+  pub chain-end : length p ≡ 0 → chain_count p count ≡ Some count
   unfolding cut some_short choose
   chain-end e = rw (empty p e, add-zero count)
 
-  pub chain-short : 0 < length p → length p < 4 → chain_count p count ≡ record { number = 9; count = 0 }
+  pub chain-short : 0 < length p → length p < 4 → chain_count p count ≡ None
   unfolding choose
   chain-short h l = rw (overrun-cons p h, lt-ltb (length p) (section_length p) (omega arith))
 

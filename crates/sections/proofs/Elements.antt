@@ -9,17 +9,24 @@ use mathlib.Core.Bool.{Bool}
 use mathlib.Core.List.{List, [], ◌∷◌}
 use lib.Dec.{eqb, leb}
 use lib.ListN.{length, get_or, take, drop, length-drop, take-append-drop}
-use lib.Seq.{length-take-le, drop-drop, take-append-le, drop-append-le}
-use borrow.Author.Tests.{eq-eqb, ne_eqb, eqb-true, eqb-false, not-false, le-leb, lt-leb, leb-false}
-use Rattle.basics.proofs.Over.{part}
-use Rattle.basics.proofs.Table.{Numbered, first-kept, first_next, first-none, when-none, last-unasked, last-passed, last_taken, last-free}
+use native.Mathlib.Nat.{add_assoc}
+use lib.Seq.{get_or-drop, length-take-le, drop-drop, take-append-le, drop-append-le}
+use borrow.Author.Tests.{eq-eqb, ne_eqb, eqb-true, eqb-false, not-false, leb-false}
+use Rattle.basics.proofs.Table.{Numbered, first-kept, first_next, first-none, when-none, last-passed}
 use Rattle.record.specs.declared.Header.{Header}
 use Rattle.sections.specs.Section.{section_at, start_of}
 use Rattle.sections.specs.Element.{element_size, size_in, elements_in, partial_element, offset_in, element_at}
-use Rattle.sections.specs.Answer.{section_lines, type_lines, element_lines, section_found, element_count, element_found}
-use Rattle.sections.specs.declared.Count.{Count}
+use Rattle.sections.specs.Answer.{section_lines, type_lines, section_found, element_count, element_found, count_as, part_as}
+use Rattle.sections.specs.Stage.{AreElements}
 use Rattle.sections.specs.declared.Part.{Part}
-use Rattle.sections.proofs.Tables.{TwoLines, two-lines, counted_none, counted-refused, counted-given, located-refused, located-given}
+use Rattle.sections.specs.declared.Place.{Place}
+use Rattle.sections.specs.declared.SectionElements.{SectionElements}
+use Rattle.std.specs.Prelude.{Ok, Err}
+use Rattle.basics.specs.Refusal.{number}
+use Rattle.basics.specs.declared.refusal.Refusal.{Refusal}
+use Rattle.basics.specs.declared.refusal.Refusal.TheVariants.{UnknownSectionType, PartialElement}
+use Rattle.basics.proofs.Refusals.{number-positive}
+use Rattle.sections.proofs.Tables.{TwoLines, two-lines, counted-refused, counted-given, counted-free, counted-all, lookup-here}
 use Rattle.sections.proofs.Finding.{section-numbered, section-most, section-standing}
 use Rattle.sections.proofs.Partial.{display-size, partial-exactly, partial-remainder}
 
@@ -33,12 +40,12 @@ take-inside n m len q h =
     sym (take-append-le n (drop m (take len q)) (drop len q) inside)
     ∙ ap (λ (l : List ℕ). take n l) (sym (drop-append-le m (take len q) (drop len q) (omega arith)) ∙ ap (λ (l : List ℕ). drop m l) (take-append-drop len q))
 
--- from a place on the payload is section k and what follows it
-pub record Seen (p : List ℕ) (k start : ℕ) : Type 0 where
-  pub is : start ≡ start_of p k
-  pub room : start + 4 ≤ length p
-  pub long : 4 ≤ length (take (length p - start) (drop start p))
-  pub byte : (i : ℕ) → i < 4 → get_or (take (length p - start) (drop start p)) i 0 ≡ get_or (section_at p k) i 0
+-- section k stands at a place of the payload, with its type behind its first byte
+pub record Seen (p : List ℕ) (k : ℕ) (section : Place) : Type 0 where
+  pub starts : section.start ≡ start_of p k
+  pub room : section.start + 4 ≤ length p
+  pub whole : section.length ≡ 4 + 4 * get_or (section_at p k) 0 0
+  pub typed : get_or p (section.start + 1) 0 ≡ get_or (section_at p k) 1 0
 
 module _ (h : Header) (p : List ℕ) (k : ℕ) where
   abbrev type : ℕ
@@ -97,44 +104,44 @@ module _ (h : Header) (p : List ℕ) (k : ℕ) where
         );
       }
 
-  -- ── a count of elements, after what `find_section` answers
+  -- ── the elements, after what `place_of_section` answers
 
-  -- of a section that is found, by the size of its elements and the bytes left over
-  pub record Answers (size : ℕ) : Type 0 where
-    pub untyped : size ≡ 0 → record { number = 11; count = 0 } ≡ element_count h p k
-    pub partial : size ≢ 0 → 4 * frames % size ≢ 0 → record { number = 13; count = 0 } ≡ element_count h p k
-    pub whole : size ≢ 0 → 4 * frames % size ≡ 0 → record { number = 0; count = 4 * frames / size } ≡ element_count h p k
+  pub elements-refused : (refusal : Refusal) → part_as (Err refusal) ≡ section_found h p k → count_as (Err refusal) ≡ element_count h p k
+  elements-refused refusal is =
+      let number_is : number refusal ≡ (section_found h p k).number = ap (λ (x : Part). x.number) is in
+      let refused : number refusal ≢ 0 = λ e. omega (arith, number-positive refusal) in
+      counted-refused (type_lines h p k) (number refusal) (kept (λ e. refused (number_is ∙ e)) ∙ sym number_is) refused _
 
-  module _ (l : Part) (is : l ≡ section_found h p k) where
-    number_is : l.number ≡ (section_found h p k).number
-    number_is = ap (λ (x : Part). x.number) is
+  module _ (section : Place) (is : part_as (Ok section) ≡ section_found h p k) where
+    here : (section_found h p k).number ≡ 0
+    here = sym (ap (λ (x : Part). x.number) is)
 
-    pub count-refused : l.number ≢ 0 → record { number = l.number; count = 0 } ≡ element_count h p k
-    count-refused r = counted-refused (type_lines h p k) l.number (kept (λ e. r (number_is ∙ e)) ∙ sym number_is) r _
+    pub seen : Seen p k section
+    seen =
+        let s = section-standing h p k here in
+        let start : section.start ≡ start_of p k = ap (λ (x : Part). x.start) is ∙ when-none _ (start_of p k) 0 here in
+        let long : section.length ≡ length (section_at p k) = ap (λ (x : Part). x.length) is ∙ when-none _ (length (section_at p k)) 0 here in
+        record {
+          starts = start;
+          room = omega (arith, s.within, s.whole);
+          whole = long ∙ s.whole;
+          typed = rw start (sym (get_or-drop (start_of p k) p 1 0) ∙ s.head 1 (omega arith));
+        }
 
-    module _ (none : l.number ≡ 0) where
-      here : (section_found h p k).number ≡ 0
-      here = sym number_is ∙ none
+    pub untyped : element_size type ≡ 0 → count_as (Err UnknownSectionType) ≡ element_count h p k
+    untyped none = counted-refused (type_lines h p k) 11 (elements-exist.eleven.1 (here, none)) (λ e. omega arith) _
 
-      pub seen : Seen p k l.start
-      seen =
-          let s = section-standing h p k here in
-          let start : l.start ≡ start_of p k = ap (λ (x : Part). x.start) is ∙ when-none _ (start_of p k) 0 here in
-          record {
-            is = start;
-            room = omega (arith, s.within, s.whole);
-            long = rw (part p l.start) (omega (arith, s.within, s.whole, length-drop l.start p));
-            byte = λ i b. rw (part p l.start, start) (s.head i b);
-          }
+    module _ (size : ℕ) (sized : size ≡ element_size type) (positive : 0 < size) where
+      bytes : section.length - 4 ≡ 4 * frames
+      bytes = omega (arith, seen.whole)
 
-      pub answers : (size : ℕ) → size ≡ size_in (section_at p k) → Answers size
-      answers size sized = record {
-        untyped = λ z. counted-refused (type_lines h p k) 11 (elements-exist.eleven.1 (here, sym sized ∙ z)) (λ e. omega arith) _;
-        partial = λ typed left.
-            let odd = (partial-exactly (section_at p k)).0 (partial-remainder (section_at p k) (omega arith) ∙ rw (sym sized, ne_eqb _ 0 left)) in
-            counted-refused (type_lines h p k) 13 (elements-exist.thirteen.1 (here, odd.0, odd.1)) (λ e. omega arith) _;
-        whole = λ typed. rw sized (λ fills. counted-given (type_lines h p k) (elements-exist.none.1 (here, omega arith, fills)) _);
-      }
+      pub partial : (section.length - 4) % size ≢ 0 → count_as (Err PartialElement) ≡ element_count h p k
+      partial left =
+          let odd = (partial-exactly (section_at p k)).0 (partial-remainder (section_at p k) (omega arith) ∙ rw (sym sized, ne_eqb _ 0 (rw bytes at left))) in
+          counted-refused (type_lines h p k) 13 (elements-exist.thirteen.1 (here, odd.0, odd.1)) (λ e. omega arith) _
+
+      pub filled : (section.length - 4) % size ≡ 0 → count_as (Ok ((section.length - 4) / size)) ≡ element_count h p k
+      filled = rw (bytes, sized) (λ fills. counted-given (type_lines h p k) (elements-exist.none.1 (here, omega arith, fills)) _)
 
   -- ── an element
 
@@ -175,29 +182,13 @@ module _ (h : Header) (p : List ℕ) (k : ℕ) where
       let both = last-passed (type_lines h p k) (leb (elements_in (section_at p k)) i) 10 type-numbered (omega arith) e in
       inside i both.0 (leb-false _ i both.1)
 
-  -- what `find_element` answers, after what `element_count` does
-  module _ (i : ℕ) (c : Count) (is : c ≡ element_count h p k) where
-    type-is : c.number ≡ (element_count h p k).number
-    type-is = ap (λ (x : Count). x.number) is
+  -- what `place_of_element` answers, after what `elements_of_section` does
+  module _ (i : ℕ) (elements : SectionElements) (is : AreElements h p k (Ok elements)) (below : i < elements.count) where
+    pub element-fits : Inside i
+    element-fits =
+        inside i (counted-free (type_lines h p k) _ elements.count is.0) (omega (arith, counted-all (type_lines h p k) (elements_in (section_at p k)) elements.count is.0))
 
-    pub element-refused : c.number ≢ 0 → record { number = c.number; start = 0; length = 0 } ≡ element_found h p k i
-    element-refused r = located-refused (element_lines h p k i) c.number (last-unasked (type_lines h p k) (leb (elements_in (section_at p k)) i) 10 c.number type-is r) r _ _
-
-    module _ (none : c.number ≡ 0) where
-      count-is : c.count ≡ elements_in (section_at p k)
-      count-is = counted_none (type_lines h p k) _ c is none
-
-      pub element-missing : c.count ≤ i → record { number = 10; start = 0; length = 0 } ≡ element_found h p k i
-      element-missing b =
-          located-refused (element_lines h p k i) 10
-          (last_taken (type_lines h p k) (leb (elements_in (section_at p k)) i) 10 type-numbered (sym type-is ∙ none) (le-leb _ i (omega (arith, count-is)))) (λ e. omega arith) _ _
-
-      module _ (here : i < c.count) where
-        pub element-fits : Inside i
-        element-fits = inside i (sym type-is ∙ none) (omega (arith, count-is))
-
-        pub element-here : (start size : ℕ) → start ≡ start_of p k → size ≡ size_in (section_at p k)
-            → (start + (4 + i * size) + size ≤ length p) × (record { number = 0; start = start + (4 + i * size); length = size } ≡ element_found h p k i)
-        element-here start size at sized =
-            rw (at, sized)
-            (element-fits.within, located-given (element_lines h p k i) (last-free (type_lines h p k) (leb (elements_in (section_at p k)) i) 10 type-numbered (sym type-is ∙ none) (lt-leb _ i (omega (arith, count-is)))) _ _)
+    pub element-here : part_as (Ok (record { start = elements.start + i * elements.size; length = elements.size })) ≡ element_found h p k i
+    element-here =
+        rw (is.1, is.2, add_assoc)
+        (lookup-here (type_lines h p k) (elements_in (section_at p k)) i (start_of p k + offset_in (section_at p k) i) (size_in (section_at p k)) type-numbered elements.count is.0 below)

@@ -2,22 +2,24 @@
 use Prim.Native.Nat.{ℕ, ◌-◌, ◌%◌, ◌<◌, ◌≤◌}
 use native.Mathlib.Omega.{arith}
 use native.Mathlib.Nat.{zero-add}
-use mathlib.Core.Path.{◌≡◌, sym, ap, ◌∙◌}
-use mathlib.Core.Logic.{◌≢◌, ◌↔◌}
+use mathlib.Core.Path.{◌≡◌, refl, sym}
+use mathlib.Core.Logic.{◌↔◌}
 use mathlib.Core.Bool.{Bool, true, false, not, not-eq-not}
-use mathlib.Core.List.{List}
+use mathlib.Core.List.{List, [], ◌∷◌}
 use lib.Dec.{eqb, leb, ltb}
 use lib.ListN.{length}
-use borrow.Author.Tests.{eq-eqb, eqb-true, not-false, le-leb, lt-leb, leb-false, le-ltb, ltb-false}
+use borrow.Author.Tests.{eq-eqb, eqb-true, not-false, leb-false, le-ltb, ltb-false}
 use Rattle.basics.specs.Choice.{choose}
 use Rattle.basics.proofs.Choice.{choose-by, neither}
-use Rattle.basics.proofs.Table.{Numbered, line-passed, last-unasked, last-passed, last_taken, last-free}
+use Rattle.basics.proofs.Table.{Numbered, line-passed, last-passed}
 use Rattle.record.specs.declared.Header.{Header}
-use Rattle.sections.specs.Section.{section_length, sections_of, overrun}
-use Rattle.sections.specs.Answer.{not_block, block_lines, section_lines, section_count, section_found}
+use Rattle.sections.specs.Section.{section_length, sections_of, overrun, section_at, start_of}
+use Rattle.sections.specs.Answer.{counted, not_block, block_lines, section_lines, section_count, section_found, count_as, part_as}
 use Rattle.sections.specs.Stage.{chain_count}
-use Rattle.sections.specs.declared.Count.{Count}
-use Rattle.sections.proofs.Tables.{counted_none, located-refused, located-given}
+use Rattle.std.specs.Prelude.{Ok, Err, None, Some}
+use Rattle.std.specs.Option.{ok_or}
+use Rattle.basics.specs.declared.refusal.Refusal.TheVariants.{NotBlockPacket, SectionPastEnd}
+use Rattle.sections.proofs.Tables.{counted-free, counted-all, lookup-here}
 use Rattle.sections.proofs.Sections.{sections-at-most, from, from_start, from-size, Standing, standing}
 
 -- what a block packet is, and which payloads it can have
@@ -54,11 +56,16 @@ unfolding not_block
 room-left h n v d c f = rw (eq-eqb _ _ v, eq-eqb _ _ d, eq-eqb _ _ c, eq-eqb _ _ f)
 
 module _ (h : Header) (p : List ℕ) where
-  pub block-counted : not_block h (length p) ≡ false → chain_count p 0 ≡ section_count h p
+  pub block-counted : not_block h (length p) ≡ false → count_as (ok_or (chain_count p 0) SectionPastEnd) ≡ section_count h p
   unfolding choose
-  block-counted e = rw (e, zero-add (length (sections_of p)))
+  block-counted e = rw (e, zero-add (length (sections_of p))) (by (overrun p))
+    where
+      by : (test : Bool) → count_as (ok_or (choose test None (Some (length (sections_of p)))) SectionPastEnd)
+          ≡ counted ((test, 9) ∷ []) (length (sections_of p))
+      by true = refl
+      by false = refl
 
-  pub block_refused : not_block h (length p) ≡ true → record { number = 8; count = 0 } ≡ section_count h p
+  pub block_refused : not_block h (length p) ≡ true → count_as (Err NotBlockPacket) ≡ section_count h p
   unfolding choose
   block_refused e = rw e
 
@@ -106,29 +113,14 @@ module _ (h : Header) (p : List ℕ) where
       let there = found-present k e in
       standing p k there.here there.whole
 
-  -- what `find_section` answers, after what `section_count` does
-  module _ (k : ℕ) (c : Count) (is : c ≡ section_count h p) where
-    number_is : c.number ≡ (section_count h p).number
-    number_is = ap (λ (x : Count). x.number) is
+  -- what `place_of_section` answers, after what `count_sections` does
+  module _ (k count : ℕ) (is : count_as (Ok count) ≡ section_count h p) (here : k < count) where
+    pub find-present : Present k
+    find-present =
+        present k (counted-free (block_lines h p) _ count is) (omega (arith, counted-all (block_lines h p) (length (sections_of p)) count is))
 
-    pub find-refused : c.number ≢ 0 → record { number = c.number; start = 0; length = 0 } ≡ section_found h p k
-    find-refused r = located-refused (section_lines h p k) c.number (last-unasked (block_lines h p) (leb (length (sections_of p)) k) 10 c.number number_is r) r _ _
-
-    module _ (none : c.number ≡ 0) where
-      count-is : c.count ≡ length (sections_of p)
-      count-is = counted_none (block_lines h p) _ c is none
-
-      pub find-missing : c.count ≤ k → record { number = 10; start = 0; length = 0 } ≡ section_found h p k
-      find-missing l =
-          located-refused (section_lines h p k) 10
-          (last_taken (block_lines h p) (leb (length (sections_of p)) k) 10 block-numbered (sym number_is ∙ none) (le-leb _ k (omega (arith, count-is)))) (λ e. omega arith) _ _
-
-      module _ (here : k < c.count) where
-        pub find-present : Present k
-        find-present = present k (sym number_is ∙ none) (omega (arith, count-is))
-
-        pub find-here : record { number = 0; start = length p - length (from p k); length = section_length (from p k) } ≡ section_found h p k
-        find-here =
-            let there = find-present in
-            rw (sym (from_start p k there.here there.whole), sym (from-size p k there.here there.whole))
-            (located-given (section_lines h p k) (last-free (block_lines h p) (leb (length (sections_of p)) k) 10 block-numbered there.counted (lt-leb _ k there.here)) _ _)
+    pub find-here : part_as (Ok (record { start = length p - length (from p k); length = section_length (from p k) })) ≡ section_found h p k
+    find-here =
+        let there = find-present in
+        rw (sym (from_start p k there.here there.whole), sym (from-size p k there.here there.whole))
+        (lookup-here (block_lines h p) (length (sections_of p)) k (start_of p k) (length (section_at p k)) block-numbered count is here)

@@ -18,6 +18,7 @@ use Rattle.sections.specs.Section.{sections_of, overrun, section_at, start_of}
 use Rattle.sections.specs.Element.{element_size, size_in, elements_in, offset_in, element_at}
 use Rattle.sections.specs.Answer.{not_block, block_lines, section_lines, type_lines, element_lines, section_count, section_found, section_shown, element_count, element_found, element_shown}
 use Rattle.sections.specs.Part.{Shows}
+use Rattle.sections.specs.declared.Part.{Part}
 use Rattle.sections.specs.declared.Shown.{Shown}
 use Rattle.sections.proofs.Tables.{two-lines, asked-below, located-within, shown-at, shown-none}
 use Rattle.sections.proofs.Sections.{Whole, overrun-exactly, start-next, sections-joined}
@@ -178,6 +179,11 @@ module _ (h : Header) (p : List ℕ) where
         ∙ ap (λ (m : ℕ). take all (drop (4 + m) (section_at p k))) (zero-mul size)
         ∙ take_all all (drop 4 (section_at p k)) (omega (arith, elements-fill k none, section-length k found, length-drop 4 (section_at p k)))
         ∙ ap (λ (l : List ℕ). drop 4 l) (sym (when-none _ (section_at p k) [] found))
+
+-- what is shown where something was found
+pub shows : (s : Bor (List ℕ)) (found is : Part) (bytes : List ℕ) (r : Shown) → found ≡ is → bytes ≡ take is.length (drop is.start s.now)
+    → Shows s found (take found.length (drop found.start s.now)) r → Shows s is bytes r
+shows s found is bytes r e b h = rw (b, sym e) h
 
 -- an answer shows an empty part exactly if it has a refusal's number
 pub shown-empty : (h : Header) (s : Bor (List ℕ)) (k : ℕ) (r : Shown)

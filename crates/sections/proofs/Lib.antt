@@ -6,4 +6,3 @@ pub mod Partial
 pub mod Elements
 pub mod Laws
 pub mod Samples
-pub mod Showing

@@ -2,7 +2,8 @@
 use Prim.Native.Nat.{ℕ, ◌*◌, ◌%◌, ◌<◌}
 use native.Mathlib.Omega.{arith}
 use native.Mathlib.Decide.{ℕ_discrete}
-use mathlib.Core.Path.{◌≡◌, refl}
+use mathlib.Core.Path.{◌≡◌, refl, sym}
+use Rattle.std.specs.Prelude.{None, Some}
 use mathlib.Core.Logic.{◌≢◌, ◌↔◌, dite}
 use mathlib.Core.Bool.{Bool, true, false, not, and-eq-true_iff}
 use mathlib.Core.List.{List}
@@ -13,6 +14,7 @@ use Rattle.basics.specs.Choice.{choose}
 use Rattle.basics.proofs.Choice.{choose-by}
 use Rattle.sections.specs.Section.{frames_in, type_of}
 use Rattle.sections.specs.Element.{element_size, size_in, partial_element}
+use Rattle.sections.specs.Stage.{size_of}
 
 module _ (type frames : ℕ) where
   line : (test : Bool) {size other : ℕ} → (test ≡ true → 0 < size → 4 * frames % size ≡ 0) → (test ≡ false → 0 < other → 4 * frames % other ≡ 0)
@@ -30,6 +32,19 @@ module _ (type frames : ℕ) where
       line (eqb type 0x0B) (λ e pos. omega arith) (λ e.
       line (eqb type 0x0C) (λ e pos. omega arith) (λ e.
       line (eqb type 0x0D) (λ e pos. omega arith) (λ e pos. absurd (omega arith))))))))
+
+-- a type in the table has a size above 0, and any other has none
+pub sized : (type size : ℕ) → size_of type ≡ Some size → (size ≡ element_size type) × (0 < size)
+unfolding choose
+sized type size e =
+    dite (ℕ_discrete (element_size type) 0)
+    (λ zero. absurd (cc (rw (eq-eqb _ 0 zero) at e)))
+    (λ above. let is : element_size type ≡ size = cc (rw (ne_eqb _ 0 above) at e) in (sym is, omega arith))
+
+pub unsized : (type : ℕ) → size_of type ≡ None → element_size type ≡ 0
+unfolding choose
+unsized type e =
+    dite (ℕ_discrete (element_size type) 0) (λ zero. zero) (λ above. absurd (cc (rw (ne_eqb _ 0 above) at e)))
 
 pub display-size : element_size 0x0A ≡ 8
 unfolding element_size choose

@@ -10,9 +10,15 @@ use lib.Dec.{leb}
 use lib.ListN.{length, take, drop}
 use borrow.Author.Tests.{leb-true, leb-false, le-leb, lt-leb}
 use Rattle.basics.specs.Choice.{choose, first}
-use Rattle.basics.proofs.Table.{Numbered, when-none, when-refused, AskedLast, asked-last}
-use Rattle.sections.specs.Answer.{counted, located, shown}
+use Rattle.basics.specs.Refusal.{number}
+use Rattle.basics.specs.declared.refusal.Refusal.{Refusal}
+use Rattle.basics.specs.declared.refusal.Refusal.TheVariants.{NoSuchPart}
+use Rattle.basics.proofs.Refusals.{number-positive}
+use Rattle.basics.proofs.Table.{Numbered, when-none, when-refused, last-unasked, last_taken, last-free, AskedLast, asked-last}
+use Rattle.std.specs.Prelude.{Ok, Err}
+use Rattle.sections.specs.Answer.{counted, located, shown, count_as, part_as}
 use Rattle.sections.specs.declared.Count.{Count}
+use Rattle.sections.specs.declared.Part.{Part}
 
 -- the first line that applies has the number x
 module _ (lines : List (Bool × ℕ)) (x : ℕ) (is : first lines ≡ x) where
@@ -30,9 +36,35 @@ module _ (lines : List (Bool × ℕ)) (none : first lines ≡ 0) where
   pub located-given : (start n : ℕ) → record { number = 0; start = start; length = n } ≡ located lines start n
   located-given start n = rw (none, when-none 0 start 0 refl, when-none 0 n 0 refl)
 
-pub counted_none : (lines : List (Bool × ℕ)) (n : ℕ) (c : Count) → c ≡ counted lines n → c.number ≡ 0 → c.count ≡ n
-counted_none lines n c is e =
-    ap (λ (x : Count). x.count) is ∙ when-none _ n 0 (sym (ap (λ (x : Count). x.number) is) ∙ e)
+-- ── a count, and a lookup by number
+
+module _ (lines : List (Bool × ℕ)) (n count : ℕ) (is : count_as (Ok count) ≡ counted lines n) where
+  pub counted-free : first lines ≡ 0
+  counted-free = sym (ap (λ (x : Count). x.number) is)
+
+  pub counted-all : count ≡ n
+  counted-all = ap (λ (x : Count). x.count) is ∙ when-none _ n 0 counted-free
+
+-- the lookup has one line more than the count, that the number is at or above it
+module _ (lines : List (Bool × ℕ)) (n k start size : ℕ) where
+  abbrev lookup : Part
+  lookup = located (lines ++ ((leb n k, 10) ∷ [])) start size
+
+  pub lookup-refused : (refusal : Refusal) → count_as (Err refusal) ≡ counted lines n → part_as (Err refusal) ≡ lookup
+  lookup-refused refusal is =
+      let refused : number refusal ≢ 0 = λ e. omega (arith, number-positive refusal) in
+      located-refused (lines ++ ((leb n k, 10) ∷ [])) (number refusal) (last-unasked lines (leb n k) 10 (number refusal) (ap (λ (x : Count). x.number) is) refused) refused start size
+
+  module _ (numbered : Numbered lines) (count : ℕ) (is : count_as (Ok count) ≡ counted lines n) where
+    pub lookup-missing : count ≤ k → part_as (Err NoSuchPart) ≡ lookup
+    lookup-missing above =
+        located-refused (lines ++ ((leb n k, 10) ∷ [])) 10
+        (last_taken lines (leb n k) 10 numbered (counted-free lines n count is) (le-leb n k (omega (arith, counted-all lines n count is)))) (λ e. omega arith) start size
+
+    pub lookup-here : k < count → part_as (Ok (record { start = start; length = size })) ≡ lookup
+    lookup-here below =
+        located-given (lines ++ ((leb n k, 10) ∷ []))
+        (last-free lines (leb n k) 10 numbered (counted-free lines n count is) (lt-leb n k (omega (arith, counted-all lines n count is)))) start size
 
 -- the number that two lines give
 pub record TwoLines (upper lower number : ℕ) (a b : Bool) : Type 0 where

@@ -1,11 +1,14 @@
 -- What is answered about sections and elements: document 01's refusals 8 to 11 and document 02's 13 in the stated orders, or what was asked for.
-use Rattle.std.specs.Prelude.{ℕ, ◌+◌, ◌%◌, Bool, ◌||◌, not, List, [], ◌∷◌, ◌++◌, eqb, leb, ltb, length}
+use Rattle.std.specs.Prelude.{ℕ, ◌+◌, ◌%◌, Bool, ◌||◌, not, List, [], ◌∷◌, ◌++◌, eqb, leb, ltb, length, Result, Ok, Err}
 use Rattle.basics.specs.Choice.{choose, first}
+use Rattle.basics.specs.Refusal.{number}
+use Rattle.basics.specs.declared.refusal.Refusal.{Refusal}
 use Rattle.record.specs.declared.Header.{Header}
 use Rattle.sections.specs.Section.{sections_of, overrun, section_at, start_of}
 use Rattle.sections.specs.Element.{size_in, elements_in, partial_element, offset_in, element_at}
 use Rattle.sections.specs.declared.Count.{Count}
 use Rattle.sections.specs.declared.Part.{Part}
+use Rattle.sections.specs.declared.Place.{Place}
 
 -- 8: not version 0x10, destination 0x0015 and command 0x0100, or payload length not a multiple of 4 or above 508
 unfoldable pub not_block : Header → ℕ → Bool
@@ -36,6 +39,15 @@ counted lines n = record { number = first lines; count = choose (eqb (first line
 abbrev pub located : List (Bool × ℕ) → ℕ → ℕ → Part
 located lines start n =
     record { number = first lines; start = choose (eqb (first lines) 0) start 0; length = choose (eqb (first lines) 0) n 0 }
+
+-- the answers as C gets them
+abbrev pub count_as : Result ℕ Refusal → Count
+count_as (Ok count) = record { number = 0; count = count }
+count_as (Err refusal) = record { number = number refusal; count = 0 }
+
+abbrev pub part_as : Result Place Refusal → Part
+part_as (Ok place) = record { number = 0; start = place.start; length = place.length }
+part_as (Err refusal) = record { number = number refusal; start = 0; length = 0 }
 
 -- by the table's lines, the bytes that are shown or, refused, none
 abbrev pub shown : List (Bool × ℕ) → List ℕ → List ℕ

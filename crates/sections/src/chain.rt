@@ -1,41 +1,41 @@
-// The chain of sections: headers and payloads alternate until the payload runs out exactly.
-ghost use Rattle.std.specs.Prelude.{◌≡◌, false, ◌+◌, ◌<◌, ◌≤◌, length, drop};
+// The chain of sections: headers and payloads alternate until the payload runs out exactly. Where a section runs past its end, there is no
+// count: an `Option`, since it takes two registers, and half as much stack at each step as a `Result`, which is handed back in memory.
+ghost use Rattle.std.specs.Prelude.{◌≡◌, false, ◌+◌, ◌*◌, ◌<◌, ◌≤◌, length, drop};
 ghost use mathlib.Core.List.{flatten};
 ghost use Rattle.sections.specs.Section.{sections_of, overrun};
 ghost use Rattle.sections.specs.Stage.{chain_count, payload_count};
 
-use crate::Count;
+// How long a section is, by its first byte: four bytes of header, and four for each payload frame.
+pub fn section_length(first: u8) -> usize
+    ensures { result ≡ 4 + 4 * first }
+{
+    4 + 4 * first as usize
+}
 
 // The chain check at a section's header. The sections counted so far are handed along, so that nothing is left to do behind a call.
 #[cycle(header_step_payload_step)]
-pub fn header_step(rest: &[u8], count: usize) -> Count
+pub fn header_step(rest: &[u8], count: usize) -> Option<usize>
     requires { count + length rest.now ≤ 508 }
     ensures { result ≡ chain_count rest.now count }
 {
-    if rest.len() == 0 {
-        return Count { number: 0, count };
+    if rest.is_empty() {
+        return Some(count);
     }
     if rest.len() < 4 {
-        return Count {
-            number: 9,
-            count: 0,
-        };
+        return None;
     }
-    let size = 4 * (rest[0] as usize);
+    let size = 4 * rest[0] as usize;
     payload_step(&rest[4..], size, count + 1)
 }
 
 // The chain check at a section's payload of `size` bytes; that section is counted.
 #[cycle(header_step_payload_step)]
-fn payload_step(rest: &[u8], size: usize, count: usize) -> Count
+fn payload_step(rest: &[u8], size: usize, count: usize) -> Option<usize>
     requires { count + length rest.now ≤ 508 }
     ensures { result ≡ payload_count rest.now size count }
 {
     if rest.len() < size {
-        return Count {
-            number: 9,
-            count: 0,
-        };
+        return None;
     }
     header_step(&rest[size..], count)
 }
@@ -49,6 +49,5 @@ pub fn from_section(rest: &[u8], k: usize) -> &[u8]
     if k == 0 {
         return rest;
     }
-    let size = 4 + 4 * (rest[0] as usize);
-    from_section(&rest[size..], k - 1)
+    from_section(&rest[section_length(rest[0])..], k - 1)
 }

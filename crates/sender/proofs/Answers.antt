@@ -3,33 +3,14 @@ use Prim.Native.Nat.{ℕ, ◌+◌, ◌<◌, ◌≤◌}
 use native.Mathlib.Omega.{arith}
 use mathlib.Core.Path.{◌≡◌}
 use mathlib.Core.Bool.{true, false}
-use mathlib.Core.List.{List}
 use borrow.Author.Tests.{ltb-false, not-false, lt-ltb, le-ltb, eq-eqb, ne_eqb}
-use Rattle.basics.specs.Bytes.{over}
 use Rattle.basics.specs.Choice.{choose}
-use Rattle.basics.specs.Output.{output_with}
 use Rattle.basics.proofs.Table.{line-passed}
 use Rattle.sender.specs.declared.Settings.{Settings}
 use Rattle.sender.specs.declared.Sender.{Sender}
 use Rattle.sender.specs.Energy.{settings_refused, energy_after_portion}
 use Rattle.sender.specs.Queue.{is_idle, portion_size}
-use Rattle.sender.specs.Answer.{sent_by, settings_refusal, enqueue_refusal, transmit_refusal, transmitted}
-
--- an answer, and the buffer that is written, by the refusal
-module _ (refusal size : ℕ) (after before : Sender) (result buffer : List ℕ) where
-  pub refused-with : (number : ℕ) → 0 < number → refusal ≡ number
-      → (record { number = number; length = 0; sender = before } ≡ sent_by refusal size after before)
-      × (buffer ≡ output_with refusal result buffer)
-  unfolding choose
-  refused-with number pos e =
-      let some = ne_eqb number 0 (λ z. omega arith) in
-      (rw (e, some), rw (e, some))
-
-  pub accepted-with : refusal ≡ 0
-      → (record { number = 0; length = size; sender = after } ≡ sent_by refusal size after before)
-      × (over result buffer ≡ output_with refusal result buffer)
-  unfolding choose
-  accepted-with e = (rw e, rw e)
+use Rattle.sender.specs.Answer.{settings_refusal, enqueue_refusal, transmit_refusal, transmitted}
 
 module _ (s : Settings) where
   pub settings-19 : settings_refused s ≡ true → settings_refusal s ≡ 19

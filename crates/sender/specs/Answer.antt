@@ -1,8 +1,10 @@
 -- What the calls to a sender answer, and what the lent buffers hold afterwards: request No. 10, with its refusals 19, 20, 25 and document
 -- 01's 5.
-use Rattle.std.specs.Prelude.{ℕ, ◌+◌, not, List, [], ◌∷◌, eqb, ltb, length}
+use Rattle.std.specs.Prelude.{ℕ, ◌+◌, not, List, [], ◌∷◌, eqb, ltb, length, Result, Ok, Err}
 use Rattle.basics.specs.Choice.{choose, first}
 use Rattle.basics.specs.Output.{output_with}
+use Rattle.basics.specs.Refusal.{number}
+use Rattle.basics.specs.declared.refusal.Refusal.{Refusal}
 use Rattle.sender.specs.declared.Settings.{Settings}
 use Rattle.sender.specs.declared.Sender.{Sender}
 use Rattle.sender.specs.declared.Sent.{Sent}
@@ -13,6 +15,11 @@ use Rattle.sender.specs.Queue.{is_idle, portion_size, portion}
 abbrev pub sent_by : ℕ → ℕ → Sender → Sender → Sent
 sent_by refusal size after before =
     record { number = refusal; length = choose (eqb refusal 0) size 0; sender = choose (eqb refusal 0) after before }
+
+-- the answer as C gets it: what was handed out and the sender afterwards, or a refusal's number and the sender as it was
+abbrev pub sent_as : Result (ℕ × Sender) Refusal → Sender → Sent
+sent_as (Ok (size, after)) before = record { number = 0; length = size; sender = after }
+sent_as (Err refusal) before = record { number = number refusal; length = 0; sender = before }
 
 -- ── a sender begins
 

@@ -2,15 +2,18 @@
 // energy pays for, then waits until it is full again.
 #![tactic(auto)]
 
-ghost use Rattle.std.specs.Prelude.{◌≡◌, false, ◌*◌, ◌<◌, ◌≤◌, min, length};
-ghost use Rattle.sender.specs.Energy.{settings_refused, energy_left, energy_after_portion, energy_after_wait};
+ghost use Rattle.std.specs.Prelude.{◌≡◌, false, length, IfOk};
+ghost use Rattle.basics.specs.Refusal.{number_in};
+ghost use Rattle.sender.specs.Energy.{is_waiting, settings_refused, energy_left, energy_after_portion, energy_after_wait};
 ghost use Rattle.sender.specs.Queue.{unsent_count, portion_size, is_idle};
-ghost use Rattle.sender.specs.Answer.{sent_by, start_of, enqueue_of, queue_after, transmit_of, output_after, wait_of};
+ghost use Rattle.sender.specs.Answer.{settings_refusal, sent_as, start_of, enqueue_of, queue_after, transmit_of, output_after, wait_of};
+
+use basics::Refusal;
 
 // How much energy there is at most, what a byte costs of it, and what a microsecond of waiting gives back. A largest energy of 0
 // switches energy keeping off.
 #[repr(C)]
-#[derive(Clone, Copy)]
+#[derive(Clone, Copy, Default)]
 pub struct Settings {
     pub max_energy: u32,
     pub loss_per_byte: u32,
@@ -20,7 +23,7 @@ pub struct Settings {
 // The state between calls. The bytes stand in the queue that is lent with it: `queued` of them were queued, and the first `sent` of
 // these were handed out. It waits exactly while `energy` is below the largest.
 #[repr(C)]
-#[derive(Clone, Copy)]
+#[derive(Clone, Copy, Default)]
 pub struct Sender {
     pub settings: Settings,
     pub energy: u32,
@@ -37,155 +40,156 @@ pub struct Sent {
     pub sender: Sender,
 }
 
-// Refusal 19.
-fn settings_refused(settings: Settings) -> bool
-    ensures { result ≡ settings_refused settings }
-{
-    if settings.max_energy == 0 {
-        return false;
+impl Settings {
+    // The settings can be used: energy keeping is off, or a loss and a gain are given, and a full sender pays for a byte.
+    #[tactic(auto, unfolding(crate::specs::Answer::settings_refusal, crate::specs::Energy::settings_refused, basics::specs::Choice::choose))]
+    fn check(self) -> Result<(), Refusal>
+        ensures { number_in result ≡ settings_refusal self }
+    {
+        if self.max_energy != 0
+            && (self.loss_per_byte == 0
+                || self.gain_per_microsecond == 0
+                || self.max_energy < self.loss_per_byte)
+        {
+            return Err(Refusal::WrongSettings);
+        }
+        Ok(())
     }
-    if settings.loss_per_byte == 0 {
-        return true;
+
+    // The energy after a portion.
+    fn energy_after_portion(self, size: usize) -> u32
+        ensures { result ≡ energy_after_portion self size }
+    {
+        let lost = (size as u64).saturating_mul(self.loss_per_byte as u64);
+        (self.max_energy as u64).saturating_sub(lost) as u32
     }
-    if settings.gain_per_microsecond == 0 {
-        return true;
-    }
-    settings.max_energy < settings.loss_per_byte
 }
 
-// The smaller of two numbers.
-fn min(a: usize, b: usize) -> usize
-    ensures { result ≡ min a b }
-{
-    if b < a {
-        return b;
+impl Sender {
+    // It waits until it is full.
+    fn is_waiting(self) -> bool
+        ensures { result ≡ is_waiting self }
+    {
+        self.energy < self.settings.max_energy
     }
-    a
+
+    // How many queued bytes are still to go. Any state may be handed in: the queue has 772 bytes, whatever `queued` says.
+    #[tactic(auto, unfolding(crate::specs::Queue::unsent_count))]
+    fn unsent_count(self) -> usize
+        ensures { result ≡ unsent_count self }
+    {
+        self.queued.min(772).saturating_sub(self.sent)
+    }
+
+    // How many bytes go at once: none while the sender waits.
+    #[tactic(auto, unfolding(crate::specs::Queue::portion_size, crate::specs::Energy::settings_refused, basics::specs::Choice::choose))]
+    fn portion_size(self) -> usize
+        requires { settings_refused self.settings ≡ false }
+        ensures { result ≡ portion_size self }
+    {
+        if self.is_waiting() {
+            return 0;
+        }
+        let settings = self.settings;
+        let count = self.unsent_count();
+        if settings.max_energy == 0 {
+            return count;
+        }
+        count.min((settings.max_energy / settings.loss_per_byte) as usize)
+    }
+
+    // The energy after some time.
+    #[tactic(auto, unfolding(crate::specs::Energy::energy_after_wait, basics::specs::Choice::choose))]
+    fn energy_after_wait(self, microseconds: u64) -> u32
+        ensures { result ≡ energy_after_wait self microseconds }
+    {
+        if !self.is_waiting() {
+            return self.energy;
+        }
+        let gained = microseconds.saturating_mul(self.settings.gain_per_microsecond as u64);
+        (self.energy as u64)
+            .saturating_add(gained)
+            .min(self.settings.max_energy as u64) as u32
+    }
 }
 
-// How many queued bytes are still to go. Any state may be handed in: the queue has 772 bytes, whatever `queued` says.
-fn unsent_count(sender: Sender) -> usize
-    ensures { result ≡ unsent_count sender }
+// The answer to a call: how many bytes were handed out, and the sender afterwards or, refused, as it was.
+fn answer(outcome: Result<(usize, Sender), Refusal>, before: Sender) -> Sent
+    ensures { result ≡ sent_as outcome before }
 {
-    let end = min(sender.queued, 772);
-    if end < sender.sent {
-        return 0;
+    match outcome {
+        Ok((length, sender)) => Sent {
+            number: 0,
+            length,
+            sender,
+        },
+        Err(refusal) => Sent {
+            number: refusal.number(),
+            length: 0,
+            sender: before,
+        },
     }
-    end - sender.sent
 }
 
-// How many bytes go at once: none while the sender waits.
-fn portion_size(sender: Sender) -> usize
-    requires { settings_refused sender.settings ≡ false }
-    ensures { result ≡ portion_size sender }
+#[tactic(auto, unfolding(crate::specs::Answer::settings_refusal, basics::specs::Choice::choose))]
+fn started(settings: Settings) -> Result<(usize, Sender), Refusal>
+    ensures refused { number_in result ≡ settings_refusal settings }
+    ensures accepted { IfOk result (λ outcome. outcome ≡ (0, Rattle.sender.specs.Answer.started settings)) }
 {
-    let settings = sender.settings;
-    if sender.energy < settings.max_energy {
-        return 0;
-    }
-    let count = unsent_count(sender);
-    if settings.max_energy == 0 {
-        return count;
-    }
-    min(
-        count,
-        (settings.max_energy / settings.loss_per_byte) as usize,
-    )
-}
-
-// The energy after a portion.
-fn energy_after_portion(settings: Settings, size: usize) -> u32
-    requires { (0 < settings.max_energy → size * settings.loss_per_byte ≤ settings.max_energy) × (size ≤ 772) }
-    ensures { result ≡ energy_after_portion settings size }
-{
-    if settings.max_energy == 0 {
-        return 0;
-    }
-    settings.max_energy - (size as u32) * settings.loss_per_byte
-}
-
-// The energy after some time.
-fn energy_after_wait(sender: Sender, microseconds: u64) -> u32
-    requires { settings_refused sender.settings ≡ false }
-    ensures { result ≡ energy_after_wait sender microseconds }
-{
-    let settings = sender.settings;
-    if settings.max_energy <= sender.energy {
-        return sender.energy;
-    }
-    let missing = (settings.max_energy - sender.energy) as u64;
-    // A gain is at least 1, so that much time is enough, and less of it keeps the product within 64 bits.
-    if missing <= microseconds {
-        return settings.max_energy;
-    }
-    let gained = microseconds * (settings.gain_per_microsecond as u64);
-    if missing <= gained {
-        return settings.max_energy;
-    }
-    sender.energy + (gained as u32)
+    settings.check()?;
+    Ok((
+        0,
+        Sender {
+            settings,
+            energy: settings.max_energy,
+            ..Sender::default()
+        },
+    ))
 }
 
 // A full sender with nothing queued. Refused, it is all zero, which is a sender with energy keeping switched off.
+#[tactic(auto, unfolding(crate::specs::Answer::settings_refusal, basics::specs::Choice::choose))]
 pub fn start(settings: Settings) -> Sent
     ensures { result ≡ start_of settings }
 {
-    if settings_refused(settings) {
-        return Sent {
-            number: 19,
-            length: 0,
-            sender: Sender {
-                settings: Settings {
-                    max_energy: 0,
-                    loss_per_byte: 0,
-                    gain_per_microsecond: 0,
-                },
-                energy: 0,
-                queued: 0,
-                sent: 0,
-            },
-        };
-    }
-    Sent {
-        number: 0,
-        length: 0,
-        sender: Sender {
-            settings,
-            energy: settings.max_energy,
-            queued: 0,
-            sent: 0,
-        },
-    }
+    answer(started(settings), Sender::default())
 }
 
 // The energy left.
 pub fn energy(sender: Sender) -> u32
     ensures { result ≡ energy_left sender }
 {
-    if sender.settings.max_energy < sender.energy {
-        return sender.settings.max_energy;
-    }
-    sender.energy
+    sender.energy.min(sender.settings.max_energy)
 }
 
 // Nothing is to go, and no energy is waited for.
 pub fn is_idle(sender: Sender) -> bool
     ensures { result ≡ is_idle sender }
 {
-    if sender.energy < sender.settings.max_energy {
-        return false;
-    }
-    unsent_count(sender) == 0
+    !sender.is_waiting() && sender.unsent_count() == 0
 }
 
-// An answer without bytes handed out: a refusal's number or 0, and the sender to go on with.
-fn without(number: u32, sender: Sender) -> Sent
-    ensures { result ≡ record { number = number; length = 0; sender = sender } }
+#[tactic(auto, unfolding(crate::specs::Answer::enqueue_refusal, crate::specs::Answer::settings_refusal, basics::specs::Choice::choose))]
+fn enqueued(sender: Sender, queue: &mut [u8; 772], bytes: &[u8]) -> Result<(usize, Sender), Refusal>
+    ensures value { sent_as result sender ≡ enqueue_of sender bytes.now }
+    ensures queue_after { queue.new ≡ queue_after sender bytes.now queue.old }
 {
-    Sent {
-        number,
-        length: 0,
-        sender,
+    sender.settings.check()?;
+    if !is_idle(sender) {
+        return Err(Refusal::SenderBusy);
     }
+    if bytes.len() > queue.len() {
+        return Err(Refusal::QueueTooLong);
+    }
+    basics::copy(bytes, &mut queue[..]);
+    Ok((
+        0,
+        Sender {
+            queued: bytes.len(),
+            sent: 0,
+            ..sender
+        },
+    ))
 }
 
 // Queues bytes to be sent. A refusal leaves the sender and every byte of `queue` as they were.
@@ -193,20 +197,37 @@ pub fn enqueue(sender: Sender, queue: &mut [u8; 772], bytes: &[u8]) -> Sent
     ensures value { result ≡ enqueue_of sender bytes.now }
     ensures queue_after { queue.new ≡ queue_after sender bytes.now queue.old }
 {
-    if settings_refused(sender.settings) {
-        return without(19, sender);
+    answer(enqueued(sender, queue, bytes), sender)
+}
+
+#[tactic(auto, unfolding(crate::specs::Answer::transmit_refusal, crate::specs::Answer::transmitted, crate::specs::Answer::settings_refusal, basics::specs::Choice::choose))]
+fn transmitted(
+    sender: Sender,
+    queue: &[u8; 772],
+    out: &mut [u8],
+) -> Result<(usize, Sender), Refusal>
+    ensures value { sent_as result sender ≡ transmit_of sender (length out.old) }
+    ensures out_after { out.new ≡ output_after sender queue.now out.old }
+{
+    sender.settings.check()?;
+    let size = sender.portion_size();
+    if out.len() < size {
+        return Err(Refusal::OutputTooShort);
     }
-    if !is_idle(sender) {
-        return without(20, sender);
+    if size == 0 {
+        return Ok((0, sender));
     }
-    if 772 < bytes.len() {
-        return without(25, sender);
-    }
-    basics::copy(bytes, &mut queue[..]);
-    let mut after = sender;
-    after.queued = bytes.len();
-    after.sent = 0;
-    without(0, after)
+    let end = sender.sent + size;
+    basics::copy(&queue[sender.sent..end], out);
+    let energy = sender.settings.energy_after_portion(size);
+    Ok((
+        size,
+        Sender {
+            energy,
+            sent: end,
+            ..sender
+        },
+    ))
 }
 
 // Hands out the next portion to the start of `out`, if the sender is full and bytes are to go. A refusal leaves the sender and every
@@ -215,38 +236,21 @@ pub fn transmit(sender: Sender, queue: &[u8; 772], out: &mut [u8]) -> Sent
     ensures value { result ≡ transmit_of sender (length out.old) }
     ensures out_after { out.new ≡ output_after sender queue.now out.old }
 {
-    if settings_refused(sender.settings) {
-        return without(19, sender);
-    }
-    let size = portion_size(sender);
-    if out.len() < size {
-        return without(5, sender);
-    }
-    if size == 0 {
-        return without(0, sender);
-    }
-    let from = sender.sent;
-    let end = from + size;
-    let all = &queue[..];
-    basics::copy(&all[from..end], out);
-    let mut after = sender;
-    after.energy = energy_after_portion(sender.settings, size);
-    after.sent = end;
-    Sent {
-        number: 0,
-        length: size,
-        sender: after,
-    }
+    answer(transmitted(sender, queue, out), sender)
+}
+
+#[tactic(auto, unfolding(crate::specs::Answer::settings_refusal, basics::specs::Choice::choose))]
+fn waited(sender: Sender, microseconds: u64) -> Result<(usize, Sender), Refusal>
+    ensures { sent_as result sender ≡ wait_of sender microseconds }
+{
+    sender.settings.check()?;
+    let energy = sender.energy_after_wait(microseconds);
+    Ok((0, Sender { energy, ..sender }))
 }
 
 // Tells the sender that time has passed. It counts only while the sender waits.
 pub fn wait(sender: Sender, microseconds: u64) -> Sent
     ensures { result ≡ wait_of sender microseconds }
 {
-    if settings_refused(sender.settings) {
-        return without(19, sender);
-    }
-    let mut after = sender;
-    after.energy = energy_after_wait(sender, microseconds);
-    without(0, after)
+    answer(waited(sender, microseconds), sender)
 }

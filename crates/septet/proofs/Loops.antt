@@ -4,15 +4,16 @@ use native.Mathlib.Omega.{arith}
 use native.Mathlib.Nat.{pow-suc, pow-succ', sub-zero, zero-sub, suc-sub-suc, div-one, div-div-eq-div-mul, not-suc-le-zero, le_of_suc-le-suc}
 use native.Mathlib.Numerals.{add-one}
 use mathlib.Core.Path.{◌≡◌, sym}
-use mathlib.Core.List.{List, [], ◌∷◌, ◌++◌, append_assoc}
+use mathlib.Core.List.{List, [], ◌∷◌, ◌++◌, append_assoc, append-nil}
 use mathlib.Core.Bool.{true, false, ◌||◌, or-false, or-true, or_assoc}
-use lib.Dec.{leb}
 use borrow.Author.Tests.{le-leb, lt-leb}
-use lib.ListN.{length, take, drop, get_or, set, replicate}
-use lib.Seq.{take-suc, drop-cons, set_at, length-take-le}
-use lib.Pow.{pow_mono}
+use lib.Dec.{leb}
+use lib.ListN.{length, take, drop, get_or, set, replicate, drop_of_length-le}
+use lib.Seq.{take-suc, drop-cons, set_at, length-take-le, take_all}
+use Rattle.basics.specs.Bytes.{AllBelow, over}
 use Rattle.septet.specs.Septet.{septet_of, low_bits, with_top_bits, unused_bits}
 use Rattle.septet.specs.Answer.{any_high, padded}
+use Rattle.septet.proofs.Laws.{septet_of-below, septet-below}
 
 -- ── taking out, from the last byte to the first
 
@@ -29,13 +30,12 @@ low_bits-drop l low rest i j e h k =
     rw (e, take-suc low j 0, append_assoc, drop-cons l j 0)
     (set_at (take j low) (get_or low j 0) (low_bits (drop (suc j) l) ++ rest) (get_or l j 0 % 128) j (length-take-le j low (omega arith)))
 
--- one place more doubles the septet's bound
-pub pow-back : (n i : ℕ) → 0 < i → i ≤ n → 2 ^ (n - (i - 1)) ≡ 2 ^ (n - i) * 2
-pow-back n i p h = let e : n - (i - 1) ≡ suc (n - i) = omega arith in rw e (pow-suc 2 (n - i))
-
--- which is at most 128 in a block
-pub pow-seven : (n i : ℕ) → n ≤ 7 → 2 ^ (n - i) ≤ 128
-pow-seven n i h = pow_mono {i = n - i} {j = 7} (omega arith)
+-- of a block of seven bytes that fits all top bits come out
+pub all-taken : (block : List ℕ) (room septet : ℕ) → septet ≡ septet_of (take room block) % 256 → AllBelow 256 block → length block ≤ 7 → length block ≤ room
+    → septet ≡ septet_of block
+all-taken block room septet e bytes short fits =
+    let all : take room block ≡ block = take_all room block fits in
+    omega (arith, rw all at e, septet-below (length block) (septet_of block) short (septet_of-below block bytes))
 
 -- ── putting back, from the first byte to the last
 
@@ -85,3 +85,15 @@ pub drop-zeros : (n m : ℕ) → drop {A = ℕ} n (replicate m 0) ≡ replicate 
 drop-zeros zero m = rw sub-zero
 drop-zeros (suc n) zero = rw zero-sub
 drop-zeros (suc n) (suc m) = rw suc-sub-suc (drop-zeros n m)
+
+-- a block at the start of seven places that were zero
+pub over-zeros : (block : List ℕ) (n : ℕ) → length block ≡ n → over block (replicate 7 0) ≡ padded n block
+over-zeros block n e = rw (e, drop-zeros n 7)
+
+-- ── as many places lent as the block has bytes
+
+-- places that a list fills hold it, and what lay behind them lies there still
+pub filled : (p l new : List ℕ) (n : ℕ) → length p ≡ n → n ≤ length l → new ≡ over p (take n l) → new ++ drop n l ≡ over p l
+filled p l new n e fits k =
+    let none : drop (length p) (take n l) ≡ [] = drop_of_length-le (take n l) {i = length p} (omega (arith, length-take-le n l fits)) in
+    rw (k, none, append-nil, e)

@@ -1,12 +1,16 @@
 // The septet: the top bits of up to seven bytes, carried apart from them.
 #![tactic(auto)]
 
-ghost use Rattle.std.specs.Prelude.{◌≡◌};
+ghost use Rattle.std.specs.Prelude.{◌≡◌, ◌%◌, length, take};
+ghost use Rattle.basics.specs.Bytes.{over};
+ghost use Rattle.septet.specs.Septet.{septet_of, low_bits};
 ghost use Rattle.septet.specs.Answer.{extracted, injected};
+
+use basics::Refusal;
 
 // A block of at most seven bytes with its septet, or a refusal: number 7, and all else zero.
 #[repr(C)]
-#[derive(Clone, Copy)]
+#[derive(Clone, Copy, Default)]
 pub struct Septets {
     pub number: u32,
     pub bytes: [u8; 7],
@@ -18,29 +22,37 @@ fn refused() -> Septets
     ensures { result ≡ Rattle.septet.specs.Answer.refused }
 {
     Septets {
-        number: 7,
-        bytes: [0; 7],
-        length: 0,
-        septet: 0,
+        number: Refusal::WrongSeptetBlock.number(),
+        ..Septets::default()
     }
 }
 
+// Writes a block without its top bits to the start of `low`, as many of its bytes as that holds, and returns these top bits: bit i is that
+// of byte i, of the first eight.
+pub fn take_top_bits(block: &[u8], low: &mut [u8]) -> u8
+    ensures value { result ≡ septet_of (take (length low.old) block.now) % 256 }
+    ensures low_after { low.new ≡ over (low_bits (take (length low.old) block.now)) low.old }
+{
+    let count = block.len().min(low.len());
+    let mut septet: u8 = 0;
+    for i in (0..count).rev() {
+        let byte = block[i];
+        septet = septet % 128 * 2 + byte / 128;
+        low[i] = byte % 128;
+    }
+    septet
+}
+
 // The first `used` bytes without their top bits, and the septet that holds these.
+#[tactic(auto, unfolding(basics::specs::Choice::choose))]
 pub fn extract(bytes: [u8; 7], used: usize) -> Septets
     ensures { result ≡ extracted bytes used }
 {
     if used > 7 {
         return refused();
     }
-    let mut low = [0u8; 7];
-    let mut septet: u8 = 0;
-    let mut i = used;
-    while 0 < i {
-        i -= 1;
-        let byte = bytes[i];
-        septet = septet * 2 + byte / 128;
-        low[i] = byte % 128;
-    }
+    let mut low = [0; 7];
+    let septet = take_top_bits(&bytes[..used], &mut low);
     Septets {
         number: 0,
         bytes: low,
@@ -50,26 +62,21 @@ pub fn extract(bytes: [u8; 7], used: usize) -> Septets
 }
 
 // The first `used` bytes with the septet's bits as their top bits. Septet bits that stand for no byte are ignored.
+#[tactic(auto, unfolding(basics::specs::Choice::choose))]
 pub fn inject(bytes: [u8; 7], used: usize, septet: u8) -> Septets
     ensures { result ≡ injected bytes used septet }
 {
-    if used > 7 {
+    if used > 7 || septet >= 0x80 {
         return refused();
     }
-    if septet >= 0x80 {
-        return refused();
-    }
-    let mut full = [0u8; 7];
+    let mut full = [0; 7];
     let mut rest = septet;
-    let mut i = 0;
-    while i < used {
-        let byte = bytes[i];
-        if byte >= 0x80 {
+    for i in 0..used {
+        if bytes[i] >= 0x80 {
             return refused();
         }
-        full[i] = byte + 128 * (rest % 2);
-        rest = rest / 2;
-        i += 1;
+        full[i] = bytes[i] + 128 * (rest % 2);
+        rest /= 2;
     }
     Septets {
         number: 0,

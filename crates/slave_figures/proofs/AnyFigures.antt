@@ -1,6 +1,6 @@
 -- Request No. 9 of any figures at all: nothing goes out of range, and only 16, the entry taken and the figures afterwards depend on them.
-use Rattle.std.proofs.Common.{◌≡◌, ℕ, zero, suc, ◌+◌, ◌-◌, ◌^◌, ◌<◌, ◌≤◌, Bool, true, false, not, eqb, ltb, ◌≢◌, ◌⊎◌, ◌↔◌, List, length, get_or, set, sym, refl, ap, ◌∙◌, subst, inl, inr, arith, length-set, ltb-false, ltb-true, eqb-true}
-use native.Mathlib.Decide.{ℕ_discrete}
+use Rattle.std.proofs.Common.{◌≡◌, ℕ, zero, suc, ◌+◌, ◌-◌, ◌^◌, ◌<◌, ◌≤◌, Bool, true, false, not, min, eqb, ltb, ◌≢◌, ◌⊎◌, ◌↔◌, List, length, get_or, set, sym, refl, ap, ◌∙◌, subst, inl, inr, arith, length-set, eqb-true}
+use native.Mathlib.Decide.{ℕ_discrete, dec_lt}
 use mathlib.Core.Logic.{dite}
 use mathlib.Core.Bool.{Bool-discrete}
 use Rattle.basics.specs.Choice.{choose}
@@ -241,8 +241,7 @@ in-range (Change o from to) s r = r
 in-range (Remove o a) s r =
     choose-by InRange (eqb (remove_refusal o a s.table) 0)
     (λ accepted.
-    with-in-range o _ _ s.figures (omega (arith, held-in-range o s.figures r))
-    (choose-by (λ (n : ℕ). n < 2 ^ 8) (ltb (index_of o a s.table) s.figures.lowest) (λ lower. omega (arith, ltb-true (index_of o a s.table) s.figures.lowest lower, r.lowest)) (λ higher. r.lowest)) r)
+    with-in-range o _ _ s.figures (omega (arith, held-in-range o s.figures r)) (omega (arith, r.lowest)) r)
     (λ refused. r)
 
 -- ── the figures afterwards, by any
@@ -311,8 +310,8 @@ removed-figures o a s accepted =
     record {
       own = less (held_by o f) (held_with o (held_by o f - 1) lower f).0;
       other = (held_with o (held_by o f - 1) lower f).1;
-      most = subst (λ (n : ℕ). (n ≤ f.lowest) × (n ≤ index)) (sym is) (choose-by (λ (n : ℕ). (n ≤ f.lowest) × (n ≤ index)) (ltb index f.lowest) (λ below. (omega (arith, ltb-true index f.lowest below), omega arith)) (λ past. (omega arith, ltb-false index f.lowest past)));
-      one_of = subst (λ (n : ℕ). (n ≡ f.lowest) ⊎ (n ≡ index)) (sym is) (choose-by (λ (n : ℕ). (n ≡ f.lowest) ⊎ (n ≡ index)) (ltb index f.lowest) (λ below. inr refl) (λ past. inl refl));
+      most = (omega (arith, is), omega (arith, is));
+      one_of = dite (dec_lt index f.lowest) (λ below. inr (omega (arith, is, below))) (λ past. inl (omega (arith, is, past)));
     })
   where
     f : Figures
@@ -322,7 +321,7 @@ removed-figures o a s accepted =
     index = index_of o a s.table
 
     lower : ℕ
-    lower = choose (ltb index f.lowest) index f.lowest
+    lower = min index f.lowest
 
     less : {after : ℕ} (n : ℕ) → after ≡ n - 1 → (suc after ≡ n) ⊎ ((n ≡ 0) × (after ≡ 0))
     less zero is = inr (refl, is)

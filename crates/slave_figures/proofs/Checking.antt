@@ -1,11 +1,10 @@
 -- The check of a table brought in says exactly whether its figures are true.
-use Rattle.std.proofs.Common.{◌≡◌, true, false, eqb, ◌≢◌, ◌↔◌, List, length, sym, ap, eq-eqb, eqb-true}
+use Rattle.std.proofs.Common.{◌≡◌, true, false, eqb, ne_eqb, ◌≢◌, ◌↔◌, List, length, sym, ap, eq-eqb, eqb-true}
 use mathlib.Core.Bool.{and-eq-true_iff}
+use Rattle.basics.specs.Choice.{choose}
 use Rattle.slave_plans.specs.declared.Slave.{Slave}
 use Rattle.slave_figures.specs.Keeping.{figures_of, same_figures, check_by, check_of}
 use Rattle.slave_figures.specs.declared.Figures.{Figures}
-use Rattle.slave_figures.specs.declared.Checked.{Checked}
-use Rattle.slave_figures.proofs.Plans.{check-24, check-0}
 
 same-exactly : (f g : Figures) → (same_figures f g ≡ true) ↔ (f ≡ g)
 same-exactly f g = (
@@ -19,11 +18,13 @@ same-exactly f g = (
 module _ (figures : Figures) (t : List Slave) where
   -- "Any other length is refused first, as 24"
   pub check-length : length t ≢ 32 → check_of figures t ≡ record { number = 24; right = false }
-  check-length wrong = sym (check-24 (figures_of t) figures (length t) wrong)
+  unfolding check_by choose
+  check-length wrong = rw (ne_eqb _ _ wrong)
 
   -- and nothing else is
   pub check-given : length t ≡ 32 → (check_of figures t).number ≡ 0
-  check-given size = ap (λ (c : Checked). c.number) (sym (check-0 (figures_of t) figures (length t) size))
+  unfolding check_by choose
+  check-given size = rw (eq-eqb _ _ size)
 
   -- "a check that says whether a table brought in has true figures"
   pub check-exactly : ((check_of figures t).right ≡ true) ↔ ((length t ≡ 32) × (figures ≡ figures_of t))

@@ -1,4 +1,3 @@
-pub mod Plans
 pub mod TrueFigures
 pub mod AnyFigures
 pub mod Checking

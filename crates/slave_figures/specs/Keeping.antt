@@ -1,7 +1,9 @@
 -- What is kept with the table in place of counting (request No. 9), and what entering and removing do by it. The figures are those handed over,
 -- true or not.
-use Rattle.std.specs.Prelude.{ℕ, suc, ◌+◌, ◌-◌, Bool, true, false, ◌&&◌, List, [], ◌∷◌, length, ◌==◌, nat_lt}
+use Rattle.std.specs.Prelude.{ℕ, Result, Ok, Err, suc, ◌+◌, ◌-◌, Bool, true, false, ◌&&◌, List, [], ◌∷◌, length, ◌==◌, min}
 use Rattle.basics.specs.Choice.{choose, first}
+use Rattle.basics.specs.Refusal.{number}
+use Rattle.basics.specs.declared.refusal.Refusal.{Refusal}
 use Rattle.slave_plans.specs.Table.{is_free, belongs_to, lowest, lowest_from, count, index_of}
 use Rattle.slave_plans.specs.Answer.{length_line, table_with, enter_refusal_with, remove_refusal}
 use Rattle.slave_plans.specs.declared.Slave.{Slave}
@@ -56,7 +58,7 @@ enter_kept figures slave table =
 
 -- one entry less, and that which is zeroed is free
 abbrev pub figures_less : Bool → ℕ → Figures → Figures
-figures_less owner index figures = figures_with owner (held_by owner figures - 1) (choose (nat_lt index figures.lowest) index figures.lowest) figures
+figures_less owner index figures = figures_with owner (held_by owner figures - 1) (min index figures.lowest) figures
 
 abbrev pub remove_kept : Figures → Bool → ℕ → List Slave → Kept
 remove_kept figures owner address table = kept_by (remove_refusal owner address table) (figures_less owner (index_of owner address table) figures) figures
@@ -70,6 +72,11 @@ same_figures counted figures = counted.no == figures.no && (counted.yes == figur
 -- "a check that says whether a table brought in has true figures"; 24 comes first here too
 unfoldable pub check_by : ℕ → Figures → Figures → Checked
 check_by size counted figures = record { number = first (length_line size ∷ []); right = size == 32 && same_figures counted figures }
+
+-- the answer as C gets it
+abbrev pub checked_as : Result Bool Refusal → Checked
+checked_as (Ok right) = record { number = 0; right = right }
+checked_as (Err refusal) = record { number = number refusal; right = false }
 
 abbrev pub check_of : Figures → List Slave → Checked
 check_of figures table = check_by (length table) (figures_of table) figures

@@ -1,6 +1,5 @@
 -- What entering and removing make of the figures, from what was seen of the table.
-use Rattle.std.specs.Prelude.{ℕ, suc, ◌+◌, ◌%◌, ◌^◌, Bool, nat_lt}
-use Rattle.basics.specs.Choice.{choose}
+use Rattle.std.specs.Prelude.{ℕ, suc, ◌+◌, ◌%◌, ◌^◌, Bool, min}
 use Rattle.slave_plans.specs.declared.Occupancy.{Occupancy}
 use Rattle.slave_figures.specs.Keeping.{held_by, figures_with, kept_by, figures_less}
 use Rattle.slave_figures.specs.declared.Figures.{Figures}
@@ -8,11 +7,11 @@ use Rattle.slave_figures.specs.declared.Kept.{Kept}
 
 -- where the search for the next free entry begins, in eight bits: an entry's index is far below 255
 abbrev pub index_behind : ℕ → ℕ
-index_behind index = choose (nat_lt index 255) (suc index) 255
+index_behind index = min (suc index) 255
 
 -- "(32 if none)"
 abbrev pub free_or32 : ℕ → ℕ
-free_or32 index = choose (nat_lt index 32) index 32
+free_or32 index = min index 32
 
 -- from the next free entry. The number wraps, since any may be handed in; an owner with so great a number is refused
 abbrev pub enter_figures : ℕ → Figures → Bool → ℕ → Kept

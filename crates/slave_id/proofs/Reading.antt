@@ -50,18 +50,6 @@ module _ (r : Record) where
     λ x. rw (x.telegram, eq-eqb _ _ x.command, eq-eqb _ _ x.seven, eq-eqb _ _ x.last),
   )
 
-  pub no-response : (Response r → ⊥) → false ≡ is_response r
-  no-response never = go (is_response r) (λ e. never (response-exactly.0 e))
-    where
-      go : (b : Bool) → (b ≡ true → ⊥) → false ≡ b
-      go true h = absurd (h refl)
-      go false h = refl
-
-  -- where the first three tests pass, the seventh byte decides
-  pub last-decides : kind_of r.header.version ≡ Telegram → r.header.command ≡ 0x23 → length r.payload ≡ 7 → eqb (byte 6) 0 ≡ is_response r
-  unfolding is_response
-  last-decides k c n = rw (k, eq-eqb _ _ c, eq-eqb _ _ n)
-
   -- 18 exactly where the record is no response, and then zeros
   pub read-given : is_response r ≡ true → slave_id_of r ≡ identified (identifier_at r.payload 0) (identifier_at r.payload 3)
   unfolding slave_id_of choose

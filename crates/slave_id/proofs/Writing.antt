@@ -8,7 +8,7 @@ use mathlib.Core.List.{List}
 use lib.Dec.{leb, lit<}
 use lib.ListN.{length, take, drop}
 use lib.Seq.{take-append_seam}
-use borrow.Author.Tests.{le-leb, lt-leb, leb-false}
+use borrow.Author.Tests.{lt-leb, leb-false}
 use Rattle.basics.specs.Choice.{choose}
 use Rattle.basics.proofs.Choice.{neither}
 use Rattle.basics.proofs.Table.{line-passed, when-none}
@@ -30,14 +30,6 @@ wide-exactly p d = (
   λ e. let both = neither (leb (2 ^ 24) p) (leb (2 ^ 24) d) e in (leb-false (2 ^ 24) p both.0, leb-false (2 ^ 24) d both.1),
   λ (small, other). rw (lt-leb (2 ^ 24) p small, lt-leb (2 ^ 24) d other),
 )
-
-pub wide-product : (p d : ℕ) → 2 ^ 24 ≤ p → true ≡ too_wide p d
-unfolding too_wide
-wide-product p d l = rw (le-leb (2 ^ 24) p l)
-
-pub wide-device : (p d : ℕ) → p < 2 ^ 24 → leb (2 ^ 24) d ≡ too_wide p d
-unfolding too_wide
-wide-device p d l = rw (lt-leb (2 ^ 24) p l)
 
 -- ── when it is refused
 

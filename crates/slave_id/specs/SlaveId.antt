@@ -1,13 +1,16 @@
 -- The slave ID response: request No. 7, with its refusal 18 in both meanings.
-use Rattle.std.specs.Prelude.{ℕ, ◌+◌, ◌*◌, ◌/◌, ◌%◌, ◌^◌, Bool, true, false, ◌&&◌, ◌||◌, not, List, [], ◌∷◌, ◌++◌, eqb, leb, length, get_or}
+use Rattle.std.specs.Prelude.{ℕ, ◌+◌, ◌*◌, ◌/◌, ◌%◌, ◌^◌, Bool, true, false, ◌&&◌, ◌||◌, not, List, [], ◌∷◌, ◌++◌, eqb, leb, length, get_or, Result, Ok, Err}
 use Rattle.basics.specs.Choice.{choose, first}
 use Rattle.basics.specs.Output.{too_short, answered, output_with}
+use Rattle.basics.specs.Refusal.{number}
+use Rattle.basics.specs.declared.refusal.Refusal.{Refusal}
 use Rattle.basics.specs.Words.{word_at, high_word}
 use Rattle.basics.specs.declared.Written.{Written}
 use Rattle.stream.specs.Layout.{kind_of}
 use Rattle.stream.specs.declared.Kind.{Kind}
 use Rattle.stream.specs.declared.Kind.TheVariants.{Packet, Datagram, Telegram, Unknown}
 use Rattle.record.specs.Record.{Record, stream_of}
+use Rattle.slave_id.specs.declared.identifiers.Identifiers.{Identifiers}
 use Rattle.slave_id.specs.declared.SlaveId.{SlaveId}
 
 -- ── reading
@@ -37,6 +40,11 @@ identified product device =
 -- a refused answer: its number and zeros
 abbrev pub unidentified : ℕ → SlaveId
 unidentified number = record { number = number; product = 0; device = 0; week = 0; serial = 0 }
+
+-- what was found as C gets it
+abbrev pub slave_id_as : Result Identifiers Refusal → SlaveId
+slave_id_as (Ok found) = identified found.product found.device
+slave_id_as (Err refusal) = unidentified (number refusal)
 
 -- 18 when reading: the record is no such telegram
 abbrev pub read_refusal : Record → ℕ

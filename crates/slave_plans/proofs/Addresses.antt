@@ -31,13 +31,8 @@ slave-exactly a = (
   λ s. rw (eq-eqb _ _ s.class, ne_eqb _ _ s.bit-7, ne_eqb _ _ s.bit-15, ne_eqb _ _ s.number),
 )
 
-pub no-slave : (a : ℕ) → (SlaveAddress a → ⊥) → true ≡ not_slave a
-no-slave a never = sym (not-eq-not.0 (λ e. never ((slave-exactly a).0 e)))
-
--- behind the other tests bits 4 to 11 are left
-pub number-decides : (a : ℕ) → a / 2 ^ 12 % 2 ^ 3 ≡ 2 → a / 2 ^ 7 % 2 ≢ 1 → a / 2 ^ 15 % 2 ≢ 1 → eqb (a / 2 ^ 4 % 2 ^ 8) 0 ≡ not_slave a
-unfolding not_slave
-number-decides a class bit-7 bit-15 = rw (eq-eqb _ _ class, ne_eqb _ _ bit-7, ne_eqb _ _ bit-15)
+pub no-slave : (a : ℕ) → (SlaveAddress a → ⊥) → not_slave a ≡ true
+no-slave a never = not-eq-not.0 (λ e. never ((slave-exactly a).0 e))
 
 -- 0, the free entries' address, is none
 pub slave-nonzero : (a : ℕ) → SlaveAddress a → a ≢ 0

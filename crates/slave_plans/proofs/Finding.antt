@@ -13,7 +13,6 @@ use Rattle.slave_plans.specs.declared.Found.{Found}
 use Rattle.slave_id.specs.SlaveId.{too_wide}
 use Rattle.slave_plans.proofs.Addresses.{slave-exactly, slave-nonzero}
 use Rattle.slave_plans.proofs.Entries.{by-test}
-use Rattle.slave_plans.proofs.Plans.{absent-nowhere}
 use Rattle.slave_plans.proofs.Indices.{Lowest, Nowhere, lowest-is, lowest-none}
 use Rattle.slave_plans.proofs.Refusals.{Findable, length-exactly, findable-exactly}
 
@@ -107,9 +106,13 @@ module _ (o : Bool) (a : ℕ) (t : List Slave) (size : length t ≡ 32) where
 
   -- an address that isn't 0 stands somewhere exactly if it is found
   there-found : a ≢ 0 → ltb (index_of o a t) (length t) ≡ finds o a t
+  unfolding is_absent
   there-found some =
-      opposite (index_of o a t) (length t) ∙ ap not (absent-nowhere (length t) (index_of o a t) a some ∙ absent-unfound) ∙ not-not (finds o a t)
+      opposite (index_of o a t) (length t) ∙ ap not (nowhere ∙ absent-unfound) ∙ not-not (finds o a t)
     where
+      nowhere : leb (length t) (index_of o a t) ≡ is_absent (length t) (index_of o a t) a
+      nowhere = rw (ne_eqb a 0 some)
+
       opposite : (m n : ℕ) → ltb m n ≡ not (leb n m)
       opposite m n = dite (dec_lt m n) (λ l. rw (lt-ltb m n l, lt-leb n m l)) (λ g. rw (le-ltb m n (omega (arith, g)), le-leb n m (omega (arith, g))))
 

@@ -1,5 +1,5 @@
 -- Laws of where entries stand, and of a table in which one entry is another.
-use Rattle.std.proofs.Common.{◌≡◌, ℕ, zero, suc, ◌<◌, ◌≤◌, Bool, true, false, ltb, ◌↔◌, List, [], ◌∷◌, length, get_or, set, sym, refl, ap, ◌∙◌, subst, true≢false, le_of_suc-le-suc, not-suc-le-zero, arith, le-ltb, lt-ltb}
+use Rattle.std.proofs.Common.{◌≡◌, ℕ, zero, suc, ◌<◌, ◌≤◌, Bool, true, false, min, ◌↔◌, List, [], ◌∷◌, length, get_or, set, sym, refl, ap, ◌∙◌, subst, true≢false, le_of_suc-le-suc, not-suc-le-zero, arith}
 use native.Mathlib.Decide.{dec_lt}
 use mathlib.Core.Logic.{dite}
 use Rattle.basics.specs.Choice.{choose}
@@ -139,21 +139,10 @@ module _ (test : Slave → Bool) where
       rw (lowest-next x t n) (lowest-next x (set t (lowest test t) e) n ∙ ap suc (lowest-behind t e new inside) ∙ sym (from_next (suc (lowest test t)) x t)))
 
   -- where one that passes takes another's place, it is the lowest, or the one that was
-  pub lowest-lower : (t : List Slave) (i : ℕ) (e : Slave) → test e ≡ true → i < length t → lowest test (set t i e) ≡ choose (ltb i (lowest test t)) i (lowest test t)
-  unfolding lowest choose
+  pub lowest-lower : (t : List Slave) (i : ℕ) (e : Slave) → test e ≡ true → i < length t → lowest test (set t i e) ≡ min i (lowest test t)
+  unfolding lowest
   lowest-lower [] i e new l = absurd (not-suc-le-zero l)
-  lowest-lower (x ∷ t) zero e new l = lowest-first e t new ∙ sym (either (lowest test (x ∷ t)))
-    where
-      either : (n : ℕ) → choose (ltb 0 n) 0 n ≡ 0
-      either zero = refl
-      either (suc n) = rw (lt-ltb 0 (suc n) (omega arith))
+  lowest-lower (x ∷ t) zero e new l = lowest-first e t new ∙ omega arith
   lowest-lower (x ∷ t) (suc i) e new l = by-test (test x)
-      (λ y. rw (lowest-first x t y, le-ltb (suc i) 0 (omega arith)) (lowest-first x (set t i e) y))
-      (λ n.
-      rw (lowest-next x t n)
-      (lowest-next x (set t i e) n ∙ ap suc (lowest-lower t i e new (le_of_suc-le-suc l)) ∙ both (lowest test t)))
-    where
-      both : (m : ℕ) → suc (choose (ltb i m) i m) ≡ choose (ltb (suc i) (suc m)) (suc i) (suc m)
-      both m = dite (dec_lt i m)
-          (λ below. rw (lt-ltb i m below, lt-ltb (suc i) (suc m) (omega (arith, below))))
-          (λ past. rw (le-ltb i m (omega (arith, past)), le-ltb (suc i) (suc m) (omega (arith, past))))
+      (λ y. rw (lowest-first x t y, lowest-first x (set t i e) y) (omega arith))
+      (λ n. rw (lowest-next x t n, lowest-next x (set t i e) n) (omega (arith, lowest-lower t i e new (le_of_suc-le-suc l))))

@@ -7,4 +7,3 @@ pub mod Finding
 pub mod Operations
 pub mod Histories
 pub mod Isolation
-pub mod Plans

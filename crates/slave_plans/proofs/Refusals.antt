@@ -14,7 +14,6 @@ use Rattle.slave_plans.specs.declared.Slave.{Slave}
 use Rattle.slave_plans.specs.declared.Occupancy.{Occupancy}
 use Rattle.slave_plans.proofs.Addresses.{SlaveAddress, slave-exactly, no-slave}
 use Rattle.slave_plans.proofs.Entries.{true-unless}
-use Rattle.slave_plans.proofs.Plans.{full-held, full-free, taken-same, taken-other, enter-24, enter-14, enter-18, enter-15, enter-16, enter-0, find-0, change-24, change-14, change-17, change-15, change-0}
 use Rattle.slave_plans.proofs.Indices.{Lowest, Nowhere, lowest-here, lowest-is, lowest-none, lowest-nowhere}
 
 -- some entry passes a test, and the lowest of them counts
@@ -44,6 +43,16 @@ absent-exactly o a t = (
   λ (some, held). rw (ne_eqb _ _ some, lt-leb _ _ (somewhere-inside (has_address o a) t held)),
 )
 
+-- a change to the address that the slave has is never refused as 15
+module _ (size other from to : ℕ) where
+  pub taken-same : to ≡ from → false ≡ is_taken size other from to
+  unfolding is_taken
+  taken-same e = rw (eq-eqb to from e)
+
+  taken-other : to ≢ from → ltb other size ≡ is_taken size other from to
+  unfolding is_taken
+  taken-other n = rw (ne_eqb to from n)
+
 taken-exactly : (o : Bool) (from to : ℕ) (t : List Slave) → (is_taken (length t) (index_of o to t) from to ≡ false) ↔ (to ≢ from → Nowhere (has_address o to) t)
 taken-exactly o from to t = (
   λ e new. lowest-nowhere (has_address o to) t (ltb-false _ _ (taken-other (length t) (index_of o to t) from to new ∙ e)),
@@ -54,16 +63,25 @@ taken-exactly o from to t = (
 )
 
 -- 16's test, of any occupancy
+module _ (size : ℕ) (occupancy : Occupancy) where
+  full-held : 24 ≤ occupancy.held → is_full size occupancy ≡ true
+  unfolding is_full
+  full-held many = rw (le-leb 24 occupancy.held many)
+
+  full-free : occupancy.held < 24 → is_full size occupancy ≡ leb size occupancy.free
+  unfolding is_full
+  full-free few = rw (lt-leb 24 occupancy.held few)
+
 pub full-either : (size : ℕ) (occupancy : Occupancy) → (is_full size occupancy ≡ true) ↔ ((24 ≤ occupancy.held) ⊎ (size ≤ occupancy.free))
 full-either size occupancy = (
-  λ e. dite (dec_lt occupancy.held 24) (λ few. inr (leb-true _ _ (full-free size occupancy few ∙ e))) (λ many. inl (omega (arith, many))),
+  λ e. dite (dec_lt occupancy.held 24) (λ few. inr (leb-true _ _ (sym (full-free size occupancy few) ∙ e))) (λ many. inl (omega (arith, many))),
   λ full. go full,
 )
   where
     go : (24 ≤ occupancy.held) ⊎ (size ≤ occupancy.free) → is_full size occupancy ≡ true
-    go (inl many) = sym (full-held size occupancy many)
+    go (inl many) = full-held size occupancy many
     go (inr none) =
-        dite (dec_lt occupancy.held 24) (λ few. sym (full-free size occupancy few) ∙ le-leb _ _ none) (λ many. sym (full-held size occupancy (omega (arith, many))))
+        dite (dec_lt occupancy.held 24) (λ few. full-free size occupancy few ∙ le-leb _ _ none) (λ many. full-held size occupancy (omega (arith, many)))
 
 module _ (o : Bool) (t : List Slave) where
   abbrev occupancy : Occupancy
@@ -86,9 +104,9 @@ module _ (o : Bool) (t : List Slave) where
   roomy-exactly : (is_full (length t) occupancy ≡ false) ↔ ((count (belongs_to o) t < 24) × Somewhere is_free t)
   roomy-exactly = (
     λ e.
-        let few : count (belongs_to o) t < 24 = dite (dec_lt occupancy.held 24) (λ few. few) (λ many. absurd (true≢false (full-held (length t) occupancy (omega (arith, many)) ∙ e))) in
-        (few, somewhere-below is_free t (leb-false _ _ (full-free (length t) occupancy few ∙ e))),
-    λ (few, free). sym (full-free (length t) occupancy few) ∙ lt-leb _ _ (somewhere-inside is_free t free),
+        let few : count (belongs_to o) t < 24 = dite (dec_lt occupancy.held 24) (λ few. few) (λ many. absurd (true≢false (sym (full-held (length t) occupancy (omega (arith, many))) ∙ e))) in
+        (few, somewhere-below is_free t (leb-false _ _ (sym (full-free (length t) occupancy few) ∙ e))),
+    λ (few, free). full-free (length t) occupancy few ∙ lt-leb _ _ (somewhere-inside is_free t free),
   )
 
 pub length-exactly : (n : ℕ) → (not (eqb n 32) ≡ false) ↔ (n ≡ 32)
@@ -115,7 +133,7 @@ module _ (o : Bool) (a : ℕ) (t : List Slave) where
         let there = line-passed (is_absent (length t) (index_of o a t) a) 17 0 (omega arith) size.1 in
         let held = (absent-exactly o a t).0 there.0 in
         record { size = (length-exactly (length t)).0 size.0; some = held.0; there = held.1 },
-    λ f. sym (find-0 (length t) (index_of o a t) a f.size ((absent-exactly o a t).1 (f.some, f.there))),
+    λ f. rw (eq-eqb _ _ f.size, (absent-exactly o a t).1 (f.some, f.there)),
   )
 
   pub remove-exactly : (remove_refusal o a t ≡ 0) ↔ Findable o a t
@@ -155,7 +173,7 @@ pub record MayEnter (s : Slave) (t : List Slave) : Type 0 where
   pub free : Somewhere is_free t
 
 pub enter-exactly : (s : Slave) (t : List Slave) → (enter_refusal s t ≡ 0) ↔ MayEnter s t
-unfolding enter_refusal
+unfolding enter_refusal choose
 enter-exactly s t = (
   λ e.
       let (size, address, narrow, fresh, roomy) = enter-lines (length t) (index_of s.owner s.address t) (occupancy_of s.owner t) s e in
@@ -171,17 +189,12 @@ enter-exactly s t = (
         free = room.1;
       },
   λ m.
-      sym (
-      enter-0
-      (length t)
-      (index_of s.owner s.address t)
-      (occupancy_of s.owner t)
-      s
-      m.size
-      ((slave-exactly s.address).1 m.address)
-      ((wide-exactly s.product s.device).1 (m.product, m.device))
-      (nowhere-beyond (has_address s.owner s.address) t m.fresh)
-      ((roomy-exactly s.owner t).1 (m.few, m.free))
+      rw (
+        eq-eqb _ _ m.size,
+        (slave-exactly s.address).1 m.address,
+        (wide-exactly s.product s.device).1 (m.product, m.device),
+        le-ltb _ _ (nowhere-beyond (has_address s.owner s.address) t m.fresh),
+        (roomy-exactly s.owner t).1 (m.few, m.free),
       ),
 )
 
@@ -194,29 +207,29 @@ module _ (s : Slave) (t : List Slave) where
   at = index_of s.owner s.address t
 
   pub enter-length : length t ≢ 32 → enter_refusal s t ≡ 24
-  unfolding enter_refusal
-  enter-length wrong = sym (enter-24 (length t) at (occupancy_of s.owner t) s wrong)
+  unfolding enter_refusal choose
+  enter-length wrong = rw (ne_eqb _ _ wrong)
 
   module _ (size : length t ≡ 32) where
     pub enter-address : (SlaveAddress s.address → ⊥) → enter_refusal s t ≡ 14
-    unfolding enter_refusal
-    enter-address never = sym (enter-14 (length t) at (occupancy_of s.owner t) s size (sym (no-slave s.address never)))
+    unfolding enter_refusal choose
+    enter-address never = rw (eq-eqb _ _ size, no-slave s.address never)
 
     module _ (address : SlaveAddress s.address) where
       slave : not_slave s.address ≡ false
       slave = (slave-exactly s.address).1 address
 
       pub enter-wide : ((s.product < 2 ^ 24) × (s.device < 2 ^ 24) → ⊥) → enter_refusal s t ≡ 18
-      unfolding enter_refusal
-      enter-wide wide = sym (enter-18 (length t) at (occupancy_of s.owner t) s size slave (is_wide s.product s.device wide))
+      unfolding enter_refusal choose
+      enter-wide wide = rw (eq-eqb _ _ size, slave, is_wide s.product s.device wide)
 
       module _ (product : s.product < 2 ^ 24) (device : s.device < 2 ^ 24) where
         narrow : too_wide s.product s.device ≡ false
         narrow = (wide-exactly s.product s.device).1 (product, device)
 
         pub enter-taken : Somewhere named t → enter_refusal s t ≡ 15
-        unfolding enter_refusal
-        enter-taken held = sym (enter-15 (length t) at (occupancy_of s.owner t) s size slave narrow (somewhere-inside named t held))
+        unfolding enter_refusal choose
+        enter-taken held = rw (eq-eqb _ _ size, slave, narrow, lt-ltb _ _ (somewhere-inside named t held))
 
 -- 16 comes where no line before it applies and the occupancy, whichever it is, says so
 pub full-lines : (size at : ℕ) (occupancy : Occupancy) (s : Slave)
@@ -227,7 +240,7 @@ full-lines size at occupancy s = (
   λ e.
       let (right, address, narrow, fresh, full) = last-applies (not (eqb size 32)) (not_slave s.address) (too_wide s.product s.device) (ltb at size) (is_full size occupancy) e in
       ((length-exactly size).0 right, address, narrow, ltb-false at size fresh, full),
-  λ (right, address, narrow, fresh, full). sym (enter-16 size at occupancy s right address narrow fresh full),
+  λ (right, address, narrow, fresh, full). rw (eq-eqb _ _ right, address, narrow, le-ltb at size fresh, full),
 )
   where
     last-applies : (a b c d full : Bool) → first ((a, 24) ∷ (b, 14) ∷ (c, 18) ∷ (d, 15) ∷ (full, 16) ∷ []) ≡ 16
@@ -304,50 +317,39 @@ module _ (o : Bool) (from to : ℕ) (t : List Slave) where
           fresh = (taken-exactly o from to t).0 fresh.0;
         },
     λ m.
-        sym (
-        change-0
-        (length t)
-        old
-        new
-        from
-        to
-        m.size
-        ((slave-exactly to).1 m.new)
-        ((absent-exactly o from t).1 (m.some, m.there))
-        ((taken-exactly o from to t).1 m.fresh)
+        rw (
+          eq-eqb _ _ m.size,
+          (slave-exactly to).1 m.new,
+          (absent-exactly o from t).1 (m.some, m.there),
+          (taken-exactly o from to t).1 m.fresh,
         ),
   )
 
   -- and which refusal comes where it isn't
   pub change-length : length t ≢ 32 → change_refusal o from to t ≡ 24
-  unfolding change_refusal
-  change-length wrong = sym (change-24 (length t) old new from to wrong)
+  unfolding change_refusal choose
+  change-length wrong = rw (ne_eqb _ _ wrong)
 
   module _ (size : length t ≡ 32) where
     pub change-new : (SlaveAddress to → ⊥) → change_refusal o from to t ≡ 14
-    unfolding change_refusal
-    change-new never = sym (change-14 (length t) old new from to size (sym (no-slave to never)))
+    unfolding change_refusal choose
+    change-new never = rw (eq-eqb _ _ size, no-slave to never)
 
     module _ (address : SlaveAddress to) where
       slave-to : not_slave to ≡ false
       slave-to = (slave-exactly to).1 address
 
       pub change-old : ((from ≢ 0) × Somewhere (has_address o from) t → ⊥) → change_refusal o from to t ≡ 17
-      unfolding change_refusal
-      change-old absent = sym (change-17 (length t) old new from to size slave-to (is-absent o from t absent))
+      unfolding change_refusal choose
+      change-old absent = rw (eq-eqb _ _ size, slave-to, is-absent o from t absent)
 
       pub change-taken : from ≢ 0 → Somewhere (has_address o from) t → to ≢ from → Somewhere (has_address o to) t → change_refusal o from to t ≡ 15
-      unfolding change_refusal
+      unfolding change_refusal choose
       change-taken some at_old differs at_new =
-          sym (
-          change-15
-          (length t)
-          old
-          new
-          from
-          to
-          size
-          slave-to
-          ((absent-exactly o from t).1 (some, at_old))
-          (sym (taken-other (length t) new from to differs) ∙ lt-ltb new (length t) (somewhere-inside (has_address o to) t at_new))
+          rw (
+            eq-eqb _ _ size,
+            slave-to,
+            (absent-exactly o from t).1 (some, at_old),
+            ← taken-other (length t) new from to differs,
+            lt-ltb new (length t) (somewhere-inside (has_address o to) t at_new),
           )

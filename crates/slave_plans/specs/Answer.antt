@@ -1,8 +1,10 @@
 -- What each operation on the table answers, and the table afterwards: the refusals 24 and 14 to 18 of requests No. 7 and No. 8 in the stated orders.
 -- `size` is the table's length; an index that is at least the size is that of no entry.
-use Rattle.std.specs.Prelude.{ℕ, ◌/◌, ◌%◌, ◌^◌, Bool, not, ◌&&◌, ◌||◌, List, [], ◌∷◌, length, ◌==◌, nat_le, nat_lt, slice_index_or, slice_set}
+use Rattle.std.specs.Prelude.{ℕ, Result, Ok, Err, ◌/◌, ◌%◌, ◌^◌, Bool, not, ◌&&◌, ◌||◌, List, [], ◌∷◌, length, ◌==◌, nat_le, nat_lt, slice_index_or, slice_set}
 use Rattle.basics.specs.Choice.{choose, first}
 use Rattle.basics.specs.Words.{high_word}
+use Rattle.basics.specs.Refusal.{number}
+use Rattle.basics.specs.declared.refusal.Refusal.{Refusal}
 use Rattle.slave_id.specs.SlaveId.{too_wide}
 use Rattle.slave_plans.specs.Table.{none, is_free, lowest, index_of, occupancy_of}
 use Rattle.slave_plans.specs.declared.Slave.{Slave}
@@ -78,6 +80,11 @@ found_by size at entry address =
       product = choose (refusal == 0) entry.product 0;
       device = choose (refusal == 0) entry.device 0;
     }
+
+-- the answer as C gets it
+abbrev pub found_as : Result Slave Refusal → Found
+found_as (Ok entry) = record { number = 0; product = entry.product; device = entry.device }
+found_as (Err refusal) = record { number = number refusal; product = 0; device = 0 }
 
 abbrev pub entry_of : Bool → ℕ → List Slave → Slave
 entry_of owner address table = slice_index_or table (index_of owner address table) none

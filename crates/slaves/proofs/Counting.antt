@@ -56,29 +56,23 @@ free-with true index behind = omega arith
 free-with false index behind = omega arith
 
 module _ (owner : Bool) (table : List Slave) where
-  counted-with : (index : ℕ) → index < length table → length table < 2 ^ 64
+  -- the loop goes down by an entry
+  pub counted-with : (index : ℕ) → index < length table → length table < 2 ^ 64
       → occupancy_with owner index (get_or table index none) (occupancy-from owner (suc index) table) ≡ occupancy-from owner index table
   unfolding occupancy_with
-  counted-with index l fits =
+  counted-with index inside fits =
       let entry = get_or table index none in
       let behind = drop (suc index) table in
       let owned = belongs_to owner in
       same_numbers _ _
-      (held_with (owned entry) (count owned behind) (omega (arith, fits, fewer owned table index l)) ∙ sym (count-from owned table index l))
-      (free-with (is_free entry) index (lowest is_free behind) ∙ ap (λ (n : ℕ). index + n) (sym (lowest-from is_free table index l)))
-
-  -- the loop goes down by an entry
-  pub entry-counted : {entry : Slave} {r : Occupancy} (index above : ℕ) → above ≡ suc index → above ≤ length table → length table < 2 ^ 64
-      → entry ≡ get_or table index none → r ≡ occupancy_with owner index entry (occupancy-from owner above table) → r ≡ occupancy-from owner index table
-  entry-counted index above next within fits entry-is r-is =
-      r-is ∙ ap₂ (λ (entry : Slave) (above : ℕ). occupancy_with owner index entry (occupancy-from owner above table)) entry-is next
-      ∙ counted-with index (omega (arith, next, within)) fits
+      (held_with (owned entry) (count owned behind) (omega (arith, fits, fewer owned table index inside)) ∙ sym (count-from owned table index inside))
+      (free-with (is_free entry) index (lowest is_free behind) ∙ ap (λ (n : ℕ). index + n) (sym (lowest-from is_free table index inside)))
 
   -- it starts behind the last entry, and ends where a search from the first would start
   pub counting-starts : occupancy_start (length table) ≡ occupancy-from owner (length table) table
   counting-starts =
       let all = le_refl (length table) in
-      same_numbers _ _ (sym (none_left (belongs_to owner) table (length table) all)) (omega (arith, nowhere-left is_free table (length table) all))
+      same_numbers _ _ (sym (none_left (belongs_to owner) table (length table) all)) (sym (nowhere-left is_free table (length table) all))
 
   pub counting-ends : (index : ℕ) → index ≡ search_start (length table) 0 → occupancy-from owner index table ≡ occupancy_counted owner table
   unfolding choose

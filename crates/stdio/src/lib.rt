@@ -2,11 +2,12 @@
 // What went wrong is a line on standard error, which a script turns into an exit status.
 #![tactic(auto)]
 
-ghost use Rattle.std.specs.Prelude.{◌≡◌, ◌≤◌, length, take};
+ghost use Rattle.std.specs.Prelude.{◌≡◌, ◌≤◌, length};
 
+use std::fmt::InlineText;
 use std::fs;
 use std::fs::OpenOptions;
-use std::io::{Eprint, Error, ErrorKind, Input, Print, Read, Result, Write};
+use std::io::{Eprint, Error, ErrorKind, Input, Print, Read, Result};
 use std::os::fd::AsFd;
 
 // The status where nobody reads the output any more: what a shell gives for the signal SIGPIPE, which std holds back.
@@ -14,54 +15,37 @@ pub const READER_GONE: u8 = 141;
 
 // Tells why a stream couldn't be read or written: its name and the system's words, without the number that std puts behind these.
 fn tell(rt: &impl Eprint, stream: &str, error: Error) {
-    let mut text = [0u8; 256];
-    let _ = write!(&mut text[..], "{error}");
-    let words = str::from_utf8(&text).unwrap_or("");
-    let end = words
-        .find(" (os error ")
-        .or(words.find('\0'))
-        .unwrap_or(words.len());
-    let _ = eprintln!(rt; "{stream}: {}", &words[..end]);
+    let text = InlineText::<256>::of(error);
+    let words = text.as_str();
+    let words = words
+        .split_once(" (os error ")
+        .map_or(words, |(words, _)| words);
+    let _ = eprintln!(rt; "{stream}: {words}");
 }
 
-// Reads once, and answers how many bytes came: none where the input ends, and where the read fails, which is told.
-fn read_some<R: Input + Eprint>(rt: &R, input: &mut [u8]) -> usize
-    ensures in_bounds { result ≤ length input.new }
-    ensures prefix { result ≡ length (take result input.new) }
-{
-    match rt.reader().read(input) {
-        Ok(count) => count,
-        Err(e) => {
-            tell(rt, "standard input", e);
-            0
-        }
-    }
-}
-
-// Reads until `input` is full or nothing more comes, and answers how many bytes there are.
-pub fn read_input<R: Input + Eprint>(rt: &R, input: &mut [u8]) -> usize
-    ensures in_bounds { result ≤ length input.new }
-    ensures prefix { result ≡ length (take result input.new) }
+// Reads until `input` is full, nothing more comes, or a read fails, which is told. Answers what came, at the start of `input`.
+pub fn read_input<'a, R: Input + Eprint>(rt: &R, input: &'a mut [u8]) -> &'a [u8]
+    ensures in_bounds { length result.now ≤ length input.old }
+    ensures ref_ptr_value { result.ref_ptr ≡ input.entry.ref_ptr }
 {
     let mut size = 0;
     while size < input.len() {
-        let more = read_some(rt, &mut input[size..]);
-        if more == 0 {
-            break;
+        match rt.reader().read(&mut input[size..]) {
+            Ok(0) => break,
+            Ok(count) => size += count,
+            Err(e) => {
+                tell(rt, "standard input", e);
+                break;
+            }
         }
-        size += more;
     }
-    size
+    &input[..size]
 }
 
 // Waits until the bytes of a file are on its disk, since a full disk may be found out late. What is no file, can't be opened once more, or
 // has nothing to wait for is let be.
 fn sync_output(rt: &HostRuntime) -> Result<()> {
-    let is_file = match fs::metadata(rt, "/dev/stdout") {
-        Ok(found) => found.is_file(),
-        Err(_) => false,
-    };
-    if !is_file {
+    if !fs::metadata(rt, "/dev/stdout").is_ok_and(|found| found.is_file()) {
         return Ok(());
     }
     let Ok(file) = OpenOptions::new().append(true).open(rt, "/dev/stdout") else {

@@ -3,7 +3,7 @@ use Prim.Native.Nat.{ℕ, ◌+◌, ◌-◌, ◌*◌, ◌%◌, ◌≤◌, ◌<◌
 use native.Mathlib.Omega.{arith}
 use native.Mathlib.Nat.{mul-add-mod_self_left, mod-eq_of_lt}
 use native.Mathlib.Decide.{ℕ_discrete, dec_lt}
-use mathlib.Core.Path.{◌≡◌, refl, ap, ◌∙◌, sym, subst, subst⁻¹}
+use mathlib.Core.Path.{◌≡◌, refl, ◌∙◌, sym, subst, subst⁻¹}
 use mathlib.Core.Logic.{dite}
 use mathlib.Core.List.{List}
 use borrow.Author.Tests.{eq-eqb, ne_eqb, lt-ltb, le-ltb, le-leb, lt-leb}
@@ -15,7 +15,8 @@ use Rattle.checksum.specs.Checksum.{checksum_of}
 use Rattle.stream.specs.Layout.{kind, header_length, frame_width}
 use Rattle.stream.specs.declared.Kind.{Kind}
 use Rattle.stream.specs.Validation.{Rule, any, unknown, header_sum, frame_sum, frame_rule, header_rule, rule_at, breach, fault_at}
-use Rattle.stream.specs.Stage.{Clean, Reached, ended, found, frame_fault, FirstHigh}
+use Rattle.stream.specs.Stage.{Clean, ended, found, ReachedBy, frame_fault, StopsAt}
+use Rattle.stream.specs.declared.stop.Stop.{Stop}
 
 -- ── a rule's fault, from what stands there, and back
 
@@ -172,14 +173,13 @@ module _ (width : ℕ) (s : List ℕ) (a m : ℕ) where
 
 -- ── what a search for high bytes reaches
 
-pub stop-reached : {fault : ℕ → ℕ} {s : List ℕ} {from limit stop : ℕ} {total v k : ℕ}
-    → FirstHigh s from limit stop → stop < limit → limit ≤ total → k ≡ stop → (stop < length s → v ≡ 2) → (length s ≤ stop → v ≡ 7)
-    → Clean fault stop → (0x80 ≤ get_or s stop 0 → fault stop ≡ 2) → Reached fault total (length s) v k
-stop-reached {fault} {s} {from} {limit} {stop} {total} {v} {k} first short room here high ends clean bad =
-    dite (dec_lt stop (length s))
+pub stop-reached : {fault : ℕ → ℕ} {s : List ℕ} {from limit total : ℕ} {stop : Stop} → StopsAt s from limit stop → limit ≤ total → Clean fault stop.offset
+    → (0x80 ≤ get_or s stop.offset 0 → fault stop.offset ≡ 2) → ReachedBy fault total (length s) stop
+stop-reached {fault} {s} {from} {limit} {total} {stop} stops room clean bad =
+    dite (dec_lt stop.offset (length s))
     (λ inside.
-    let two = high inside in
-    found (ap fault here ∙ bad (first.high short inside) ∙ sym two) (omega arith) (subst⁻¹ (Clean fault) here clean) (omega arith) (omega arith))
+    let (byte, two) = stops.high inside in
+    found (bad byte ∙ sym two) (omega arith) clean (omega (arith, stops.short)) inside)
     (λ outside.
-    let end : stop ≡ length s = omega (arith, first.within) in
-    ended (ends (omega arith)) (here ∙ end) (subst (Clean fault) end clean) (omega arith))
+    let end : stop.offset ≡ length s = omega (arith, stops.before.within) in
+    ended (stops.ends (omega arith)) end (subst (Clean fault) end clean) (omega (arith, stops.short)))

@@ -1,20 +1,20 @@
 -- Laws of frames: what the check of one frame has reached, at each place where it answers, and what that says of the stream.
 use Prim.Native.Nat.{ℕ, suc, ◌+◌, ◌-◌, ◌*◌, ◌≤◌, ◌<◌}
 use native.Mathlib.Omega.{arith}
-use native.Mathlib.Decide.{dec_lt}
-use native.Mathlib.Nat.{mul-zero, mul-suc, zero-add, add-zero, eq-zero-or-pos}
+use native.Mathlib.Nat.{mul-zero, mul-suc, zero-add, add-zero}
 use mathlib.Core.Path.{◌≡◌, refl, ap, ◌∙◌, sym, subst}
-use mathlib.Core.Logic.{⊎_elim, dite, ◌↔◌}
+use mathlib.Core.Logic.{◌↔◌}
 use mathlib.Core.List.{List}
+use Rattle.std.specs.Prelude.{min}
 use lib.ListN.{length, get_or, take, drop, length-drop}
 use lib.Seq.{length-take-le}
 use Rattle.checksum.specs.Checksum.{checksum_of}
 use Rattle.septet.specs.Septet.{unused_bits}
 use Rattle.stream.specs.Layout.{kind, stream_length}
 use Rattle.stream.specs.Validation.{frame_rule, rule_at, breach, fault_at}
-use Rattle.stream.specs.Stage.{Clean, Reached, whole, ended, found, frame_fault, AllLow, FirstHigh, IsMin, FramesFrom, CountedFrom, RightUpTo}
+use Rattle.stream.specs.Stage.{Clean, Reached, whole, found, frame_fault, ReachedFrame, AllLow, LowUpTo, StopsAt, FramesFrom, CountedFrom}
 use Rattle.stream.specs.Unused.{unused_frames, nonzero, count_nonzero, unused_septets_of}
-use Rattle.stream.specs.declared.frame.Passed.{Passed}
+use Rattle.stream.specs.declared.stop.Stop.{Stop}
 use Rattle.stream.proofs.Faults.{place-any, place-sum, by_place, frame_sum-right, frame_sum-wrong, frame_sum-held, frame-high, frame-low, frame-low-held, frame-part, breach-any, stop-reached}
 use Rattle.stream.proofs.Reached.{through, joined, moved}
 use Rattle.stream.proofs.UnusedSeptets.{nonzero-most, unused-next, frame-fewer}
@@ -24,42 +24,39 @@ use Rattle.stream.proofs.UnusedSeptets.{nonzero-most, unused-next, frame-fewer}
 abbrev pub SumRight : ℕ → List ℕ → Type 0
 SumRight width part = get_or part (width + 1) 0 ≡ checksum_of (take (width + 1) part)
 
-module _ (width : ℕ) {part : List ℕ} {stop : ℕ} (first : FirstHigh part 0 (width + 2) stop) where
+module _ (width : ℕ) {part : List ℕ} where
   -- no fault below k, where the checksum is right if it stands below k
-  clean-to : (k : ℕ) → k ≤ stop → (width + 1 < k → SumRight width part) → Clean (frame_fault width part) k
-  clean-to k below sum i h =
-      frame-low width part i (first.low i (omega arith) (omega arith))
+  clean-to : {end : ℕ} → LowUpTo part 0 end → end ≤ width + 2 → (k : ℕ) → k ≤ end → (width + 1 < k → SumRight width part) → Clean (frame_fault width part) k
+  clean-to low short k below sum i h =
+      frame-low width part i (low.low i (omega arith) (omega arith))
       ∙ by_place (λ (i : ℕ). i < k → breach (frame_rule width i) part i ≡ 0) width
       (λ i inside h. breach-any _ part i (place-any width i inside))
       (λ h. rw place-sum (rw (zero-add (width + 1)) at (frame_sum-right width part 0 (rw (zero-add (width + 1)) (sum h)))))
-      i (omega (arith, first.before)) h
+      i (omega arith) h
 
   -- it stopped at the end or at a high byte
-  pub frame-stops : {v k : ℕ} → stop < width + 2 → k ≡ stop → (stop < length part → v ≡ 2) → (length part ≤ stop → v ≡ 7)
-      → Reached (frame_fault width part) (width + 2) (length part) v k
-  frame-stops short here high ends =
-      stop-reached first short (omega arith) here high ends (clean-to stop (omega arith) (λ far. absurd (omega arith))) (frame-high width part stop)
+  pub frame-stops : {stop : Stop} → StopsAt part 0 (width + 2) stop → ReachedFrame width part stop
+  frame-stops {stop} stops =
+      stop-reached stops (omega arith) (clean-to stops.before (omega (arith, stops.short)) stop.offset (omega arith) (λ far. absurd (omega (arith, stops.short)))) (frame-high width part stop.offset)
 
-  pub frame-sum : width + 2 ≤ stop → (SumRight width part → ⊥) → Reached (frame_fault width part) (width + 2) (length part) 6 (width + 1)
-  frame-sum past bad =
-      found
-      (frame-low width part (width + 1) (first.low (width + 1) (omega arith) (omega arith))
-      ∙ rw place-sum (rw (zero-add (width + 1)) at (frame_sum-wrong width part 0 (λ e. bad (rw (zero-add (width + 1)) at e)))))
-      (omega arith)
-      (clean-to (width + 1) (omega arith) (λ far. absurd (omega arith)))
-      (omega arith)
-      (omega (arith, first.within))
+  module _ (low : LowUpTo part 0 (width + 2)) where
+    pub frame-sum : (SumRight width part → ⊥) → Reached (frame_fault width part) (width + 2) (length part) 6 (width + 1)
+    frame-sum bad =
+        found
+        (frame-low width part (width + 1) (low.low (width + 1) (omega arith) (omega arith))
+        ∙ rw place-sum (rw (zero-add (width + 1)) at (frame_sum-wrong width part 0 (λ e. bad (rw (zero-add (width + 1)) at e)))))
+        (omega arith)
+        (clean-to low (omega arith) (width + 1) (omega arith) (λ far. absurd (omega arith)))
+        (omega arith)
+        (omega (arith, low.within))
 
-  pub frame-whole : width + 2 ≤ stop → SumRight width part → Reached (frame_fault width part) (width + 2) (length part) 0 (width + 2)
-  frame-whole past sum =
-      whole refl refl (clean-to (width + 2) (omega arith) (λ far. sum)) (omega (arith, first.within))
+    pub frame-whole : SumRight width part → Reached (frame_fault width part) (width + 2) (length part) 0 (width + 2)
+    frame-whole sum = whole refl refl (clean-to low (omega arith) (width + 2) (omega arith) (λ far. sum)) (omega (arith, low.within))
 
 -- a frame that passes every test has no fault
 pub frame_right : (width : ℕ) (part : List ℕ) → length part ≡ width + 2 → AllLow part → SumRight width part → Clean (frame_fault width part) (width + 2)
-frame_right width part long low sum = through (frame-whole width first (omega arith) sum) (omega arith)
-  where
-    first : FirstHigh part 0 (width + 2) (width + 2)
-    first = record { after = omega arith; before = omega arith; within = omega arith; low = λ i h above. low i (omega arith); high = λ short inside. absurd (omega arith) }
+frame_right width part long low sum =
+    through (frame-whole width (record { within = omega arith; low = λ i h above. low i (omega arith) }) sum) (omega arith)
 
 -- and one that has no fault passes them
 module _ (width : ℕ) (part : List ℕ) (clean : Clean (frame_fault width part) (width + 2)) where
@@ -81,7 +78,7 @@ between s a e = take (e - a) (drop a s)
 pub length_part : (s : List ℕ) (a e : ℕ) → e ≤ length s → length (between s a e) ≡ e - a
 length_part s a e inside = length-take-le (e - a) (drop a s) (simp length-drop (omega arith))
 
-module _ (s : List ℕ) (a width end : ℕ) (frames : FramesFrom s a width end) where
+module _ (s : List ℕ) (a width count : ℕ) (frames : FramesFrom s a width count) where
   same : (e i : ℕ) → i < width + 2 → a + i < e → fault_at s (a + i) ≡ frame_fault width (between s a e) i
   same e i inside there =
       frame-part width s a (e - a) i (omega (arith, frames.after)) (rw (mul-zero, add-zero) at (frames.rules 0 i inside)) inside (omega arith)
@@ -93,83 +90,60 @@ module _ (s : List ℕ) (a width end : ℕ) (frames : FramesFrom s a width end) 
     λ clean i inside. sym (same e i inside (omega arith)) ∙ clean (a + i) (omega arith),
   )
 
-  -- past the last of them
-  pub frames-end : end ≤ a → Reached (fault_at s) (stream_length s) (length s) 0 a
-  frames-end past =
-      let last : a ≡ stream_length s = omega (arith, frames.ends, frames.total) in
+  -- there are none left
+  pub frames-end : count ≡ 0 → Reached (fault_at s) (stream_length s) (length s) 0 a
+  frames-end none =
+      let last : a ≡ stream_length s = omega (arith, frames.total, ap (λ (n : ℕ). (width + 2) * n) none, mul-zero (width + 2)) in
       whole refl last (subst (Clean (fault_at s)) last frames.clean) (omega (arith, frames.there))
 
-  module _ (more : a < end) where
-    one_more : (n : ℕ) × (frames.count ≡ suc n)
-    one_more = (frames.count - 1, ⊎_elim (λ none. absurd (omega (arith, frames.ends, ap (λ (n : ℕ). (width + 2) * n) none, mul-zero (width + 2)))) (λ pos. omega arith) (eq-zero-or-pos frames.count))
-
-    room : end ≡ a + (width + 2) + (width + 2) * one_more.0
-    room = omega (arith, frames.ends, ap (λ (n : ℕ). (width + 2) * n) one_more.1, mul-suc (width + 2) one_more.0)
+  module _ (more : 0 < count) where
+    room : stream_length s ≡ a + (width + 2) + (width + 2) * (count - 1)
+    room = omega (arith, frames.total, frame-fewer width count more)
 
     -- the first of them is right: what follows it
-    frames-next : a + (width + 2) ≤ length s → Clean (fault_at s) (a + (width + 2)) → FramesFrom s (a + (width + 2)) width end
+    frames-next : a + (width + 2) ≤ length s → Clean (fault_at s) (a + (width + 2)) → FramesFrom s (a + (width + 2)) width (count - 1)
     frames-next inside clean =
         record {
           there = inside;
           clean = clean;
           after = omega arith;
           narrow = frames.narrow;
-          count = one_more.0;
-          ends = room;
-          total = frames.total;
+          total = room;
           rules = λ j i h. subst (λ (n : ℕ). rule_at (kind s) (n + i) ≡ frame_rule width i) (omega (arith, mul-suc (width + 2) j)) (frames.rules (suc j) i h);
         }
 
-    next-count : (inside : a + (width + 2) ≤ length s) (clean : Clean (fault_at s) (a + (width + 2))) → (frames-next inside clean).count ≡ frames.count - 1
-    unfolding frames-next one_more
-    next-count inside clean = refl
+    -- the first of them isn't right: what it brings, or its bytes up to the input's end, the stream brings
+    module _ (wrong : a + (width + 2) ≤ length s → Clean (fault_at s) (a + (width + 2)) → ⊥) (end : ℕ) (least : end ≡ min (a + (width + 2)) (length s)) where
+      size : length (between s a end) ≡ end - a
+      size = length_part s a end (omega arith)
 
-module _ (s : List ℕ) (a width end unused : ℕ) (from : CountedFrom s a width end unused) where
-  -- past the last of them all are counted
-  pub counted-end : end ≤ a → unused ≡ unused_septets_of s
+      first-faulty : width + 2 ≤ length (between s a end) → Clean (frame_fault width (between s a end)) (width + 2) → ⊥
+      first-faulty long clean = wrong (omega (arith, size, frames.there)) ((first-clean end (omega (arith, size, frames.there))).0 clean)
+
+      pub frames-stop : {v k : ℕ} → Reached (frame_fault width (between s a end)) (width + 2) (length (between s a end)) v k
+          → Reached (fault_at s) (stream_length s) (length s) v (a + k)
+      frames-stop {v} {k} reached =
+          moved (fault_at s) (frame_fault width (between s a end)) a (width + 2) (stream_length s) (length s) (length (between s a end)) v k frames.clean
+          (λ i short there. same end i short (omega (arith, size, frames.there)))
+          (omega (arith, room)) (omega (arith, size, frames.there))
+          (λ cut. omega (arith, size, frames.there))
+          first-faulty
+          reached
+
+module _ (s : List ℕ) (a width count unused : ℕ) (from : CountedFrom s a width count unused) where
+  -- there are none left: all are counted
+  pub counted-end : count ≡ 0 → unused ≡ unused_septets_of s
   unfolding unused_frames count_nonzero
-  counted-end past =
-      let n = from.frames.count in
-      let none : n ≡ 0 = ⊎_elim (λ z. z) (λ pos. absurd (omega (arith, from.frames.ends, frame-fewer width n pos))) (eq-zero-or-pos n) in
+  counted-end none =
       let zero = ap (λ (n : ℕ). count_nonzero (unused_frames width n (drop a s))) none in
       omega (arith, from.counted, zero)
 
   -- the first of them is right: what follows it, with its own counted
-  pub counted_next : a < end → a + (width + 2) ≤ length s → Clean (fault_at s) (a + (width + 2))
-      → CountedFrom s (a + (width + 2)) width end (unused + nonzero (unused_bits width (get_or s (a + width) 0)))
+  pub counted_next : 0 < count → a + (width + 2) ≤ length s → Clean (fault_at s) (a + (width + 2))
+      → CountedFrom s (a + (width + 2)) width (count - 1) (unused + nonzero (unused_bits width (get_or s (a + width) 0)))
   counted_next more inside clean =
-      let n = from.frames.count in
-      let some = (one_more s a width end from.frames more).1 in
-      let left = next-count s a width end from.frames more inside clean in
-      let rest = ap (λ (m : ℕ). count_nonzero (unused_frames width m (drop (a + (width + 2)) s))) left in
       record {
-        frames = frames-next s a width end from.frames more inside clean;
-        counted = omega (arith, from.counted, rest, unused-next width n s a (omega arith));
-        few = omega (arith, from.few, left, nonzero-most (unused_bits width (get_or s (a + width) 0)));
+        frames = frames-next s a width count from.frames more inside clean;
+        counted = omega (arith, from.counted, unused-next width count s a more);
+        few = omega (arith, from.few, nonzero-most (unused_bits width (get_or s (a + width) 0)));
       }
-
--- the first of them isn't right: what it brings, or its n bytes up to the input's end, the stream brings
-pub frames-stop : (s : List ℕ) (width end n : ℕ) (passed : Passed) {v k : ℕ} → RightUpTo s width end passed → passed.at < end → IsMin (width + 2) (length s - passed.at) n
-    → Reached (frame_fault width (between s passed.at (passed.at + n))) (width + 2) (length (between s passed.at (passed.at + n))) v k
-    → Reached (fault_at s) (stream_length s) (length s) v (passed.at + k)
-frames-stop s width end n passed {v} {k} right more min reached =
-    let a = passed.at in
-    let frames = right.from.frames in
-    let inside : a + n ≤ length s = omega (arith, frames.there, min.right) in
-    let size = length_part s a (a + n) inside in
-    moved (fault_at s) (frame_fault width (between s a (a + n))) a (width + 2) (stream_length s) (length s) (length (between s a (a + n))) v k frames.clean
-    (λ i short there. same s a width end frames (a + n) i short (omega arith))
-    (omega (arith, room s a width end frames more, frames.total)) (omega arith)
-    (λ cut. dite (dec_lt n (length s - a)) (λ less. absurd (omega (arith, min.most (suc n) (omega arith) less))) (λ no. omega arith))
-    (λ long clean. right.stops more (omega arith) ((first-clean s a width end frames (a + n) (omega arith)).0 clean))
-    reached
-
--- and that is a fault
-pub stop-faulty : (s : List ℕ) (width end : ℕ) (passed : Passed) {v k : ℕ} → RightUpTo s width end passed → passed.at < end
-    → Reached (fault_at s) (stream_length s) (length s) v k → v ≡ 0 → ⊥
-stop-faulty s width end passed right more (whole z o clean inside) w =
-    let frames = right.from.frames in
-    let fits = room s passed.at width end frames more in
-    right.stops more (omega (arith, frames.total)) (λ i h. clean i (omega (arith, frames.total)))
-stop-faulty s width end passed right more (ended z o clean below) w = omega arith
-stop-faulty s width end passed right more (found e bad clean below inside) w = omega arith

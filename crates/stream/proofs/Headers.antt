@@ -1,5 +1,5 @@
 -- Laws of the header: its rules by the kind, and what a look at it has reached, at each place where it answers.
-use Prim.Native.Nat.{ℕ, ◌+◌, ◌*◌, ◌-◌, ◌≤◌, ◌<◌}
+use Prim.Native.Nat.{ℕ, ◌+◌, ◌-◌, ◌≤◌, ◌<◌}
 use native.Mathlib.Omega.{arith}
 use native.Mathlib.Decide.{ℕ_discrete, dec_lt}
 use native.Mathlib.Nat.{zero-add}
@@ -12,11 +12,11 @@ use Rattle.basics.specs.Choice.{choose}
 use Rattle.checksum.specs.Checksum.{checksum_of}
 use Rattle.stream.specs.Layout.{kind, header_length, frame_width, frame_count, length_as, stream_length}
 use Rattle.stream.specs.Validation.{any, header_sum, header_rule, rule_at, breach, fault_at}
-use Rattle.stream.specs.Stage.{Clean, Reached, whole, ended, found, ReachedTo, FirstHigh, StoppedAt, AddressClean, AddressCleanAs, ChecksumAt, FramesFrom, CountedFrom}
+use Rattle.stream.specs.Stage.{Clean, Reached, whole, ended, found, ReachedBy, LowUpTo, StopsAt, AddressClean, AddressCleanAs, ChecksumAt, FramesFrom, CountedFrom}
 use Rattle.stream.specs.Unused.{unused_frames, count_nonzero, unused_septets_of}
 use Rattle.stream.specs.declared.Kind.{Kind}
 use Rattle.stream.specs.declared.Kind.TheVariants.{Packet, Datagram, Telegram, Unknown}
-use Rattle.stream.specs.declared.Stop.{Stop}
+use Rattle.stream.specs.declared.stop.Stop.{Stop}
 use Rattle.stream.proofs.Faults.{rule-header, rule-frame, fault-high, fault-low, breach-any, header_sum-right, header_sum-wrong, sync-right, sync-wrong, stop-reached}
 use Rattle.stream.proofs.Reached.{through, bounded}
 
@@ -71,8 +71,8 @@ kept_more s k kept here i after h =
     (λ e. subst⁻¹ (λ (n : ℕ). breach (rule_at (kind s) n) s n ≡ 0) e here)
     (λ ne. kept i after (omega arith))
 
-module _ (s : List ℕ) (address : AddressClean s) (limit stop : ℕ) (first : FirstHigh s 6 limit stop) where
-  clean-to : (k : ℕ) → k ≤ stop → Kept s k → Clean (fault_at s) k
+module _ (s : List ℕ) (address : AddressClean s) {end : ℕ} (low : LowUpTo s 6 end) where
+  clean-to : (k : ℕ) → k ≤ end → Kept s k → Clean (fault_at s) k
   clean-to k below kept i h =
       dite (dec_lt i 5)
       (λ early. address.clean i early)
@@ -80,46 +80,36 @@ module _ (s : List ℕ) (address : AddressClean s) (limit stop : ℕ) (first : F
       fault-low s i (omega arith)
       (dite (ℕ_discrete i 5)
       (λ e. subst⁻¹ (λ (n : ℕ). get_or s n 0 < 0x80) e address.low)
-      (λ ne. first.low i (omega arith) (omega arith)))
+      (λ ne. low.low i (omega arith) (omega arith)))
       ∙ kept i (omega arith) h)
-
-  stops : (total : ℕ) (r : Stop) → stop < limit → limit ≤ total → Kept s stop → StoppedAt s stop r → ReachedTo s total r
-  stops total r short room kept stopped =
-      stop-reached first short room stopped.here stopped.high stopped.ends (clean-to stop (omega arith) kept)
-      (fault-high s stop (omega (arith, first.after)))
-
-  finds : (total k v : ℕ) → 6 ≤ k → k < stop → k < total → 0 < v → Kept s k → breach (rule_at (kind s) k) s k ≡ v
-      → Reached (fault_at s) total (length s) v k
-  finds total k v after past room bad kept here =
-      found
-      (fault-low s k (omega arith) (first.low k past after) ∙ here)
-      bad
-      (clean-to k (omega arith) kept)
-      room
-      (omega (arith, first.within))
-
-  passes : (total : ℕ) → total ≤ stop → Kept s total → Reached (fault_at s) total (length s) 0 total
-  passes total past kept = whole refl refl (clean-to total past kept) (omega (arith, first.within))
 
 -- ── a header with its checksum at `at`
 
-module _ (s : List ℕ) (at : ℕ) (header : ChecksumAt s at) (stop : ℕ) (first : FirstHigh s 6 (at + 1) stop) where
+module _ (s : List ℕ) (at : ℕ) (header : ChecksumAt s at) where
   kept_free : Kept s at
   kept_free i after h = breach-any _ s i (header.free i h)
 
-  pub header-stops : (r : Stop) → stop < at + 1 → StoppedAt s stop r → ReachedTo s (at + 1) r
-  header-stops r short stopped =
-      stops s header.address (at + 1) stop first (at + 1) r short (omega arith) (λ i after h. kept_free i after (omega arith)) stopped
+  pub header-stops : {stop : Stop} → StopsAt s 6 (at + 1) stop → ReachedBy (fault_at s) (at + 1) (length s) stop
+  header-stops {stop} stops =
+      stop-reached stops (omega arith)
+      (clean-to s header.address stops.before stop.offset (omega arith) (λ i after h. kept_free i after (omega (arith, stops.short))))
+      (fault-high s stop.offset (omega (arith, stops.after)))
 
-  pub header-wrong : at + 1 ≤ stop → (get_or s at 0 ≡ checksum_of (take (at - 1) (drop 1 s)) → ⊥) → Reached (fault_at s) (at + 1) (length s) 4 at
-  header-wrong past bad =
-      finds s header.address (at + 1) stop first (at + 1) at 4 header.after (omega arith) (omega arith) (omega arith) kept_free
-      (rw header.sum (header_sum-wrong (at - 1) s at bad))
+  module _ (low : LowUpTo s 6 (at + 1)) where
+    pub header-wrong : (get_or s at 0 ≡ checksum_of (take (at - 1) (drop 1 s)) → ⊥) → Reached (fault_at s) (at + 1) (length s) 4 at
+    header-wrong bad =
+        found
+        (fault-low s at (omega (arith, header.after)) (low.low at (omega arith) header.after) ∙ rw header.sum (header_sum-wrong (at - 1) s at bad))
+        (omega arith)
+        (clean-to s header.address low at (omega arith) kept_free)
+        (omega arith)
+        (omega (arith, low.within))
 
-  pub header-right : at + 1 ≤ stop → get_or s at 0 ≡ checksum_of (take (at - 1) (drop 1 s)) → Reached (fault_at s) (at + 1) (length s) 0 (at + 1)
-  header-right past right =
-      passes s header.address (at + 1) stop first (at + 1) past
-      (kept_more s at kept_free (rw header.sum (header_sum-right (at - 1) s at right)))
+    pub header-right : get_or s at 0 ≡ checksum_of (take (at - 1) (drop 1 s)) → Reached (fault_at s) (at + 1) (length s) 0 (at + 1)
+    header-right right =
+        whole refl refl
+        (clean-to s header.address low (at + 1) (omega arith) (kept_more s at kept_free (rw header.sum (header_sum-right (at - 1) s at right))))
+        (omega (arith, low.within))
 
 -- ── the header of each kind
 
@@ -156,25 +146,22 @@ module _ (K : Kind) (at : ℕ) (ends : EndsAt K at) (s : List ℕ) (sort : Addre
   pub header-within : at + 1 ≤ stream_length s
   header-within = omega (arith, ends.ends, length-as s K sort.is)
 
-  frames-from : {v k : ℕ} → Reached (fault_at s) (at + 1) (length s) v k → at + 1 ≤ k → frame_width K ≤ 7 → FramesFrom s (at + 1) (frame_width K) (at + 1 + (frame_width K + 2) * frame_count K s)
-  frames-from reached long narrow =
+  frames-from : Reached (fault_at s) (at + 1) (length s) 0 (at + 1) → frame_width K ≤ 7 → FramesFrom s (at + 1) (frame_width K) (frame_count K s)
+  frames-from reached narrow =
       record {
         there = omega (arith, bounded reached);
-        clean = through reached long;
+        clean = through reached (omega arith);
         after = omega arith;
         narrow = narrow;
-        count = frame_count K s;
-        ends = refl;
         total = rw (← ends.ends) (length-as s K sort.is);
         rules = λ j i h. rw (sort.is, ← ends.ends) (rule-frame K j i h);
       }
 
   -- the first of them, with nothing counted yet
-  pub counted-from : {v k : ℕ} → Reached (fault_at s) (at + 1) (length s) v k → at + 1 ≤ k → frame_width K ≤ 7 → frame_count K s < 256
+  pub counted-from : Reached (fault_at s) (at + 1) (length s) 0 (at + 1) → frame_width K ≤ 7 → frame_count K s < 256
       → count_nonzero (unused_frames (frame_width K) (frame_count K s) (drop (at + 1) s)) ≡ unused_septets_of s
-      → CountedFrom s (at + 1) (frame_width K) (at + 1 + (frame_width K + 2) * frame_count K s) 0
-  unfolding frames-from
-  counted-from reached long narrow few all = record { frames = frames-from reached long narrow; counted = zero-add _ ∙ all; few = omega arith }
+      → CountedFrom s (at + 1) (frame_width K) (frame_count K s) 0
+  counted-from reached narrow few all = record { frames = frames-from reached narrow; counted = zero-add _ ∙ all; few = omega arith }
 
 -- ── a datagram
 
@@ -183,8 +170,8 @@ datagram-length : (s : List ℕ) → AddressCleanAs s Datagram → stream_length
 unfolding header_length frame_width frame_count
 datagram-length s sort = length-as s Datagram sort.is
 
-pub datagram-whole : (s : List ℕ) {v k : ℕ} → AddressCleanAs s Datagram → Reached (fault_at s) 16 (length s) v k → 16 ≤ k → Reached (fault_at s) (stream_length s) (length s) 0 16
-datagram-whole s sort reached long = rw (datagram-length s sort) (whole refl refl (through reached long) (omega (arith, bounded reached)))
+pub datagram-whole : (s : List ℕ) → AddressCleanAs s Datagram → Reached (fault_at s) 16 (length s) 0 16 → Reached (fault_at s) (stream_length s) (length s) 0 16
+datagram-whole s sort reached = rw (datagram-length s sort) reached
 
 -- ── the version
 
@@ -200,21 +187,21 @@ version-unknown s address e =
 
 -- ── the bytes before the version
 
-module _ (s : List ℕ) (sync : get_or s 0 0 ≡ 0xAA) (stop : ℕ) (first : FirstHigh s 1 6 stop) where
-  address-clean-to : (k : ℕ) → k ≤ stop → k ≤ 5 → Clean (fault_at s) k
-  address-clean-to k below near i h =
+module _ (s : List ℕ) (sync : get_or s 0 0 ≡ 0xAA) where
+  address-clean-to : {end : ℕ} → LowUpTo s 1 end → (k : ℕ) → k ≤ end → k ≤ 5 → Clean (fault_at s) k
+  address-clean-to low k below near i h =
       dite (ℕ_discrete i 0)
       (λ e. subst⁻¹ (λ (n : ℕ). fault_at s n ≡ 0) e (sync-right s sync))
-      (λ ne. fault-low s i (omega arith) (first.low i (omega arith) (omega arith)) ∙ breach-any _ s i (rule-header (kind s) i (omega (arith, header_length-least (kind s))) ∙ address-any (kind s) i (omega arith)))
+      (λ ne. fault-low s i (omega arith) (low.low i (omega arith) (omega arith)) ∙ breach-any _ s i (rule-header (kind s) i (omega (arith, header_length-least (kind s))) ∙ address-any (kind s) i (omega arith)))
 
-  pub address-stops : (r : Stop) → stop < 6 → StoppedAt s stop r → ReachedTo s (stream_length s) r
-  address-stops r short stopped =
-      stop-reached first short (at-least-six s) stopped.here stopped.high stopped.ends (address-clean-to stop (omega arith) (omega arith))
-      (fault-high s stop (omega (arith, first.after)))
+  pub address-stops : {stop : Stop} → StopsAt s 1 6 stop → ReachedBy (fault_at s) (stream_length s) (length s) stop
+  address-stops {stop} stops =
+      stop-reached stops (at-least-six s) (address-clean-to stops.before stop.offset (omega arith) (omega (arith, stops.short)))
+      (fault-high s stop.offset (omega (arith, stops.after)))
 
-  pub address-clean : 6 ≤ stop → AddressClean s
-  address-clean past =
-      record { there = omega (arith, first.within); clean = address-clean-to 5 (omega arith) (omega arith); low = first.low 5 (omega arith) (omega arith) }
+  pub address-clean : LowUpTo s 1 6 → AddressClean s
+  address-clean low =
+      record { there = low.within; clean = address-clean-to low 5 (omega arith) (omega arith); low = low.low 5 (omega arith) (omega arith) }
 
 pub nothing : (s : List ℕ) → length s ≡ 0 → Reached (fault_at s) (stream_length s) (length s) 7 0
 nothing s e = ended refl (sym e) (λ i h. absurd (omega arith)) (omega (arith, at-least-six s))

@@ -1,4 +1,5 @@
 pub mod Reached
+pub mod Said
 pub mod UnusedSeptets
 pub mod Faults
 pub mod Frames

@@ -9,14 +9,18 @@ use mathlib.Core.List.{List, [], ◌∷◌}
 use borrow.Author.Count.{below_more}
 use borrow.Author.Tests.{eq-eqb, ne_eqb}
 use lib.ListN.{length, drop}
+use Rattle.std.specs.Prelude.{false, Result, Ok, Err, is_ok}
 use lib.Seq.{drop-cons, drop-length}
 use Rattle.basics.specs.Choice.{choose}
 use Rattle.stream.specs.Layout.{stream_length}
 use Rattle.stream.specs.Unused.{unused_septets_of}
-use Rattle.stream.specs.declared.Stop.{Stop}
 use Rattle.stream.specs.declared.Validation.{Validation}
-use Rattle.stream.specs.Validation.{fault_at, verdict_at, validation_from, validation_of, stop_of}
-use Rattle.stream.specs.Stage.{Clean, Reached, whole, ended, found, ReachedTo, Told}
+use Rattle.stream.specs.declared.Verdict.{Verdict}
+use Rattle.stream.specs.declared.Verdict.TheVariants.{Whole, NoSync, HighByte, UnknownVersion, HeaderChecksum, FrameChecksum, Ended}
+use Rattle.stream.specs.declared.WholeStream.{WholeStream}
+use Rattle.stream.specs.declared.stop.Stop.{Stop}
+use Rattle.stream.specs.Validation.{number, fault_at, verdict_at, validation_from, validation_of, said_by, is_whole}
+use Rattle.stream.specs.Stage.{Clean, Reached, whole, ended, found, ReachedBy}
 use Rattle.stream.proofs.Faults.{fault-by}
 
 -- ── what is reached is the answer
@@ -159,26 +163,46 @@ faulty-counted s bad = ap (λ (v : Validation). v.unused_septets) (said-again s)
 
 -- ── what is told
 
-pub told-sound : (s : List ℕ) (r : Stop) → Told s r → r ≡ stop_of s
-told-sound s r told =
-    let said = sound s r.verdict r.offset told.reached in
-    ap (λ (n : ℕ). record { verdict = r.verdict; unused_septets = n; offset = r.offset }) told.counted
-    ∙ ap (λ (v : Validation). record { verdict = v.verdict; unused_septets = v.unused_septets; offset = v.offset }) said
+-- only V0 has the number 0
+pub number-faulty : (verdict : Verdict) → (verdict ≡ Whole → ⊥) → number verdict ≡ 0 → ⊥
+number-faulty Whole bad e = bad refl
+number-faulty NoSync bad e = omega arith
+number-faulty HighByte bad e = omega arith
+number-faulty UnknownVersion bad e = omega arith
+number-faulty HeaderChecksum bad e = omega arith
+number-faulty FrameChecksum bad e = omega arith
+number-faulty Ended bad e = omega arith
 
--- a fault comes with no unused septets
-pub told-fault : (s : List ℕ) (r : Stop) → ReachedTo s (stream_length s) r → (r.verdict ≡ 0 → ⊥) → r.unused_septets ≡ 0 → Told s r
+pub told-fault : (s : List ℕ) {v k : ℕ} → Reached (fault_at s) (stream_length s) (length s) v k → (v ≡ 0 → ⊥) → record { verdict = v; offset = k; unused_septets = 0 } ≡ validation_of s
 unfolding choose
-told-fault s r reached faulty none = record { reached = reached; counted = none ∙ sym (simp (ne_eqb r.verdict 0 faulty)) }
+told-fault s {v} {k} reached bad = simp (ne_eqb v 0 bad) at (sound s v k reached)
 
-pub told-whole : (s : List ℕ) (r : Stop) → ReachedTo s (stream_length s) r → r.verdict ≡ 0 → r.unused_septets ≡ unused_septets_of s → Told s r
+pub told-whole : (s : List ℕ) (stream : WholeStream) → Reached (fault_at s) (stream_length s) (length s) 0 stream.length → stream.unused_septets ≡ unused_septets_of s
+    → said_by (Ok stream) ≡ validation_of s
 unfolding choose
-told-whole s r reached w count = record { reached = reached; counted = count ∙ sym (simp (eq-eqb r.verdict 0 w)) }
+told-whole s stream reached count =
+    ap (λ (n : ℕ). record { verdict = 0; offset = stream.length; unused_septets = n }) count ∙ sound s 0 stream.length reached
 
--- what stops before the end is a fault
-pub early-faulty : {fault : ℕ → ℕ} {total n v k : ℕ} → Reached fault total n v k → k < total → v ≡ 0 → ⊥
-early-faulty (whole z o clean inside) short w = omega arith
-early-faulty (ended z o clean below) short w = omega arith
-early-faulty (found e bad clean below inside) short w = omega arith
+-- a fault is reached before the end
+pub faulty-early : {fault : ℕ → ℕ} {total n v k : ℕ} → Reached fault total n v k → (v ≡ 0 → ⊥) → k < total
+faulty-early (whole z o clean inside) bad = absurd (bad z)
+faulty-early (ended z o clean below) bad = omega arith
+faulty-early (found e pos clean below inside) bad = below
+
+-- a fault of the first bytes is the stream's
+pub told-early : (s : List ℕ) {m : ℕ} (stop : Stop) → ReachedBy (fault_at s) m (length s) stop → m ≤ stream_length s → said_by (Err stop) ≡ validation_of s
+told-early s stop reached within =
+    let bad = number-faulty stop.verdict stop.faulty in
+    told-fault s (early reached (faulty-early reached bad) within) bad
+
+-- a fault is no whole stream
+pub told-broken : (s : List ℕ) {v k n : ℕ} → record { verdict = v; offset = k; unused_septets = n } ≡ validation_of s → (v ≡ 0 → ⊥) → false ≡ is_whole s
+told-broken s e bad = sym (ne_eqb _ 0 (λ w. bad (ap (λ (v : Validation). v.verdict) e ∙ w)))
+
+-- an answer is a stream where there is a whole one
+pub told-ok : (s : List ℕ) (answer : Result WholeStream Stop) → said_by answer ≡ validation_of s → is_ok answer ≡ is_whole s
+told-ok s (Ok stream) e = sym (eq-eqb _ 0 (sym (ap (λ (v : Validation). v.verdict) e)))
+told-ok s (Err stop) e = told-broken s e (number-faulty stop.verdict stop.faulty)
 
 -- ── V5
 

@@ -9,6 +9,8 @@ use mathlib.Core.List.{List, [], ◌∷◌}
 use borrow.Author.Tests.{eq-eqb, ne_eqb}
 use lib.ListN.{length, get_or, drop}
 use lib.Seq.{get_or-drop, drop-drop}
+use Rattle.std.specs.Int.{from_bool}
+use Rattle.std.specs.Prelude.{not, eqb}
 use Rattle.basics.specs.Bytes.{AllBelow}
 use Rattle.basics.specs.Choice.{choose}
 use Rattle.septet.specs.Septet.{unused_bits}
@@ -24,6 +26,11 @@ nonzero-zero n e = simp (eq-eqb n 0 e)
 pub nonzero-one : (n : ℕ) → (n ≡ 0 → ⊥) → nonzero n ≡ 1
 unfolding choose
 nonzero-one n e = simp (ne_eqb n 0 e)
+
+-- the test for it, as a number
+pub bit-nonzero : (n : ℕ) → from_bool (not (eqb n 0)) ≡ nonzero n
+unfolding choose
+bit-nonzero n = dite (ℕ_discrete n 0) (λ e. simp (eq-eqb n 0 e)) (λ ne. simp (ne_eqb n 0 ne))
 
 pub nonzero-most : (n : ℕ) → nonzero n ≤ 1
 nonzero-most n = dite (ℕ_discrete n 0) (λ e. omega (arith, nonzero-zero n e)) (λ ne. omega (arith, nonzero-one n ne))

@@ -1,14 +1,15 @@
 -- What is said of a stretch of bytes (document 01: judging), by its table of verdicts.
-use Rattle.std.specs.Prelude.{ℕ, suc, ◌+◌, ◌-◌, ◌%◌, Bool, List, [], ◌∷◌, ltb, leb, eqb, get_or, take, drop}
+use Rattle.std.specs.Prelude.{ℕ, suc, ◌+◌, ◌-◌, ◌%◌, Bool, List, [], ◌∷◌, ltb, leb, eqb, get_or, take, drop, Result, Ok, Err}
 use Rattle.basics.specs.Choice.{choose}
 use Rattle.checksum.specs.Checksum.{checksum_of}
 use Rattle.stream.specs.Layout.{kind, header_length, frame_width, stream_length}
 use Rattle.stream.specs.Unused.{unused_septets_of}
 use Rattle.stream.specs.declared.Kind.{Kind}
 use Rattle.stream.specs.declared.Kind.TheVariants.{Packet, Datagram, Telegram, Unknown}
-use Rattle.stream.specs.declared.Stop.{Stop}
 use Rattle.stream.specs.declared.Validation.{Validation}
 use Rattle.stream.specs.declared.Verdict.{Verdict}
+use Rattle.stream.specs.declared.WholeStream.{WholeStream}
+use Rattle.stream.specs.declared.stop.Stop.{Stop}
 use Rattle.stream.specs.declared.Verdict.TheVariants.{Whole, NoSync, HighByte, UnknownVersion, HeaderChecksum, FrameChecksum, Ended}
 
 -- the paper's numbers, V0 to V7; by request No. 3 V5 is never given
@@ -81,9 +82,10 @@ validation_from s k (byte ∷ rest) =
 abbrev pub validation_of : List ℕ → Validation
 validation_of s = validation_from s 0 s
 
--- the same, as it is handed on between crates
-abbrev pub stop_of : List ℕ → Stop
-stop_of s = record { verdict = (validation_of s).verdict; unused_septets = (validation_of s).unused_septets; offset = (validation_of s).offset }
+-- what an answer between crates says: V0 with the count, or another verdict without one
+abbrev pub said_by : Result WholeStream Stop → Validation
+said_by (Ok stream) = record { verdict = number Whole; offset = stream.length; unused_septets = stream.unused_septets }
+said_by (Err stop) = record { verdict = number stop.verdict; offset = stop.offset; unused_septets = 0 }
 
 -- the stretch is V0: it begins with one whole valid stream
 abbrev pub is_whole : List ℕ → Bool

@@ -1,77 +1,63 @@
 // The header behind the version, by the kind of the stream, and what follows it.
-ghost use Rattle.std.specs.Prelude.{◌≡◌, ◌+◌};
+ghost use Rattle.std.specs.Prelude.{◌≡◌, ◌+◌, length};
 ghost use Rattle.stream.specs.declared.Kind.TheVariants.{Packet, Datagram, Telegram};
-ghost use Rattle.stream.specs.Stage.{ReachedTo, Told, AddressClean, AddressCleanAs, ChecksumAt};
+ghost use Rattle.stream.specs.Stage.{Checked, AddressClean, AddressCleanAs, ChecksumAt};
+ghost use Rattle.stream.specs.Validation.{fault_at, said_by, validation_of};
 
-use crate::frame::{skip_right, validate_from};
-use crate::high_bytes::{first_high, stopped};
 use crate::unused::in_septet;
-use crate::{Kind, Stop, Verdict, at, telegram_frames, whole_stream};
+use crate::{Kind, Stop, Verdict, WholeStream, frame, high_bytes, telegram_frames};
 
-// The verdict on a header whose checksum stands at `place`.
-fn check(input: &[u8], place: usize) -> Stop
+// The first fault of a header whose checksum stands at `place`.
+fn check(input: &[u8], place: usize) -> Result<(), Stop>
     requires { ChecksumAt input.now place }
-    ensures reached_to { ReachedTo input.now (place + 1) result }
-    ensures unused_septets_value { result.unused_septets ≡ 0 }
+    ensures { Checked (fault_at input.now) (place + 1) (length input.now) result }
 {
-    let end = place + 1;
-    let stop = first_high(input, 6, end);
-    if stop < end {
-        return stopped(input, stop);
-    }
+    high_bytes::check(input, 6, place + 1)?;
     if checksum::checksum(&input[1..place]) != input[place] {
-        return at(Verdict::HeaderChecksum, place);
+        return Err(Verdict::HeaderChecksum.at(place));
     }
-    at(Verdict::Whole, end)
+    Ok(())
 }
 
-// The verdict on a packet: frames of four bytes, as many as offset 8 says.
-fn packet(input: &[u8]) -> Stop
+// A packet: frames of four bytes, as many as offset 8 says.
+fn packet(input: &[u8]) -> Result<WholeStream, Stop>
     requires { AddressCleanAs input.now Packet }
-    ensures { Told input.now result }
+    ensures { said_by result ≡ validation_of input.now }
 {
-    let r = check(input, 9);
-    if r.offset < 10 {
-        return r;
-    }
-    let end = 10 + 6 * (input[8] as usize);
-    validate_from(input, skip_right(input, 10, 4, end), 4, end)
+    check(input, 9)?;
+    frame::validate(input, 10, 4, input[8] as usize)
 }
 
-// The verdict on a telegram: frames of seven bytes, as many as bits 5-6 of the command say.
-fn telegram(input: &[u8]) -> Stop
+// A telegram: frames of seven bytes, as many as bits 5-6 of the command say.
+fn telegram(input: &[u8]) -> Result<WholeStream, Stop>
     requires { AddressCleanAs input.now Telegram }
-    ensures { Told input.now result }
+    ensures { said_by result ≡ validation_of input.now }
 {
-    let r = check(input, 7);
-    if r.offset < 8 {
-        return r;
-    }
-    let end = 8 + 9 * telegram_frames(input[6] as u16);
-    validate_from(input, skip_right(input, 8, 7, end), 7, end)
+    check(input, 7)?;
+    frame::validate(input, 8, 7, telegram_frames(input[6] as u16))
 }
 
-// The verdict on a datagram: a septet of six bytes at 14, and the checksum of all before it at 15.
-fn datagram(input: &[u8]) -> Stop
+// A datagram: a septet of six bytes at 14, and the checksum of all before it at 15.
+fn datagram(input: &[u8]) -> Result<WholeStream, Stop>
     requires { AddressCleanAs input.now Datagram }
-    ensures { Told input.now result }
+    ensures { said_by result ≡ validation_of input.now }
 {
-    let r = check(input, 15);
-    if r.offset < 16 {
-        return r;
-    }
-    whole_stream(16, in_septet(input[14], 6))
+    check(input, 15)?;
+    Ok(WholeStream {
+        length: 16,
+        unused_septets: in_septet(input[14], 6),
+    })
 }
 
-// The verdict on a stream of which nothing below the version is wrong.
-pub fn validate(input: &[u8]) -> Stop
+// A stream of which nothing below the version is wrong.
+pub fn validate(input: &[u8]) -> Result<WholeStream, Stop>
     requires { AddressClean input.now }
-    ensures { Told input.now result }
+    ensures { said_by result ≡ validation_of input.now }
 {
     match crate::kind_of(input[5]) {
         Kind::Packet => packet(input),
         Kind::Datagram => datagram(input),
         Kind::Telegram => telegram(input),
-        Kind::Unknown => at(Verdict::UnknownVersion, 5),
+        Kind::Unknown => Err(Verdict::UnknownVersion.at(5)),
     }
 }

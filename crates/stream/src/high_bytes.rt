@@ -1,63 +1,46 @@
 // High bytes: 0x80 and above, which are a fault anywhere behind a stream's first byte.
-ghost use Rattle.std.specs.Prelude.{◌≤◌, ◌≡◌, true, ◌↔◌, length};
-ghost use Rattle.stream.specs.Stage.{AllLow, FirstHigh, IsMin, StoppedAt};
+ghost use Rattle.std.specs.Prelude.{◌≤◌, ◌≡◌, true, ◌↔◌, length, MatchOption, MatchResult};
+ghost use Rattle.stream.specs.Stage.{AllLow, HighFirst, LowUpTo, StopsAt};
 
-use crate::{Stop, Verdict, at};
-
-pub fn min(a: usize, b: usize) -> usize
-    ensures { IsMin a b result }
-{
-    if a < b { a } else { b }
-}
+use crate::{Stop, Verdict};
 
 // Whether every byte is low. The bytes are joined without a branch between them, for speed.
 pub fn all_low(s: &[u8]) -> bool
     ensures { result ≡ true ↔ AllLow s.now }
 {
-    let mut joined: u8 = 0;
-    let mut i = 0;
-    while i < s.len() {
-        joined = joined | s[i];
-        i += 1;
+    let mut joined = 0;
+    for byte in s {
+        joined |= *byte;
     }
     joined < 0x80
 }
 
-// The first place from `from` up to `end` that has a high byte, or `end`.
-fn search(s: &[u8], from: usize, end: usize) -> usize
-    requires { (from ≤ end) × (end ≤ length s.now) }
-    ensures { FirstHigh s.now from end result }
+// The first place of a high byte.
+fn first_high(s: &[u8]) -> Option<usize>
+    ensures { MatchOption result (AllLow s.now) (HighFirst s.now) }
 {
-    let mut i = from;
-    while i < end {
-        if s[i] >= 0x80 {
-            return i;
-        }
-        i += 1;
-    }
-    i
+    s.iter().position(|byte| *byte >= 0x80)
 }
 
-// The first place from `from` on at which `s` ends or has a high byte, or `limit`.
-pub fn first_high(s: &[u8], from: usize, limit: usize) -> usize
+// The first high byte from `from` up to the limit, which lies within `s`.
+fn check_up_to(s: &[u8], from: usize, limit: usize) -> Result<(), Stop>
+    requires { (from ≤ limit) × (limit ≤ length s.now) }
+    ensures { MatchResult result (λ _. LowUpTo s.now from limit) (λ stop. StopsAt s.now from limit stop) }
+{
+    match first_high(&s[from..limit]) {
+        Some(behind) => Err(Verdict::HighByte.at(from + behind)),
+        None => Ok(()),
+    }
+}
+
+// The first high byte from `from` up to the limit, or the end of `s` before that.
+pub fn check(s: &[u8], from: usize, limit: usize) -> Result<(), Stop>
     requires { (from ≤ limit) × (from ≤ length s.now) }
-    ensures { FirstHigh s.now from limit result }
+    ensures { MatchResult result (λ _. LowUpTo s.now from limit) (λ stop. StopsAt s.now from limit stop) }
 {
-    if limit <= s.len() {
-        if all_low(&s[from..limit]) {
-            return limit;
-        }
+    if s.len() < limit {
+        check_up_to(s, from, s.len())?;
+        return Err(Verdict::Ended.at(s.len()));
     }
-    search(s, from, min(limit, s.len()))
-}
-
-// What stopped a search for high bytes at `stop`: a high byte, or the end.
-pub fn stopped(s: &[u8], stop: usize) -> Stop
-    ensures { StoppedAt s.now stop result }
-{
-    if stop < s.len() {
-        at(Verdict::HighByte, stop)
-    } else {
-        at(Verdict::Ended, stop)
-    }
+    check_up_to(s, from, limit)
 }

@@ -8,5 +8,5 @@ pub fn in_septet(septet: u8, width: usize) -> u8
     requires { width ≤ 7 }
     ensures { result ≡ nonzero (unused_bits width septet) }
 {
-    if septet >> width != 0 { 1 } else { 0 }
+    u8::from(septet >> width != 0)
 }

@@ -22,12 +22,8 @@ pub fn hex_byte(byte: u8) -> [u8; 2]
 pub fn hex_word(word: u16) -> [u8; 4]
     ensures { result ≡ hex.hex_word word }
 {
-    let high = (word / 256) as u8;
-    let low = (word % 256) as u8;
-    [
-        digit(high / 16),
-        digit(high % 16),
-        digit(low / 16),
-        digit(low % 16),
-    ]
+    let [high, low] = word.to_be_bytes();
+    let [first, second] = hex_byte(high);
+    let [third, fourth] = hex_byte(low);
+    [first, second, third, fourth]
 }

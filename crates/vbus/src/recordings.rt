@@ -15,17 +15,7 @@ pub extern "C" fn vbus_next(input: &[u8], start: usize, payload: &mut [u8]) -> F
     ensures value { result ≡ next_of input.now start (length payload.old) }
     ensures payload_after { payload.new ≡ payload_after input.now start payload.old }
 {
-    // Field by field: a copy of the struct would load the number and the flag as one where each was stored, and wait for them.
-    let next = recording::next(input, start, payload);
-    let header = next.header;
-    Found {
-        number: next.number,
-        found: next.found,
-        position: next.position,
-        length: next.length,
-        header,
-        payload_length: next.payload_length,
-    }
+    recording::next(input, start, payload)
 }
 
 // The first sync byte at or after `start` that gave no record, and why.

@@ -12,12 +12,7 @@ pub extern "C" fn vbus_encode(header: Header, payload: &[u8], out: &mut [u8]) ->
     ensures value { result ≡ encoding_of (record { header = header; payload = payload.now }) (length out.old) }
     ensures out_after { out.new ≡ output_after (record { header = header; payload = payload.now }) out.old }
 {
-    // Field by field: a copy of the struct would load the number with the bytes behind it, which weren't stored with it, and wait.
-    let written = record::encode(header, payload, out);
-    Written {
-        number: written.number,
-        length: written.length,
-    }
+    record::encode(header, payload, out)
 }
 
 // A datagram's value, the last four bytes of its payload, as a signed number.

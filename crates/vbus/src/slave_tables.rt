@@ -9,7 +9,8 @@ use slave_plans::{Found, Slave};
 // Enters a slave for its owner as the lowest free entry from the figures' on, and answers 0 or the refusal's number, with the figures afterwards.
 #[unsafe(no_mangle)]
 pub extern "C" fn vbus_slave_enter(table: &mut [Slave], figures: Figures, slave: Slave) -> Kept
-    ensures { (result ≡ enter_kept figures slave table.old) × (table.new ≡ entered_by figures slave table.old) }
+    ensures value { result ≡ enter_kept figures slave table.old }
+    ensures table_after { table.new ≡ entered_by figures slave table.old }
 {
     slaves::enter(table, figures, slave)
 }
@@ -30,7 +31,8 @@ pub extern "C" fn vbus_slave_change_address(
     from: u16,
     to: u16,
 ) -> u32
-    ensures { (result ≡ change_refusal owner from to table.old) × (table.new ≡ changed owner from to table.old) }
+    ensures value { result ≡ change_refusal owner from to table.old }
+    ensures table_after { table.new ≡ changed owner from to table.old }
 {
     slaves::change_address(table, owner, from, to)
 }
@@ -43,7 +45,8 @@ pub extern "C" fn vbus_slave_remove(
     owner: bool,
     address: u16,
 ) -> Kept
-    ensures { (result ≡ remove_kept figures owner address table.old) × (table.new ≡ removed owner address table.old) }
+    ensures value { result ≡ remove_kept figures owner address table.old }
+    ensures table_after { table.new ≡ removed owner address table.old }
 {
     slaves::remove(table, figures, owner, address)
 }

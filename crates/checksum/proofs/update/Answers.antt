@@ -1,39 +1,19 @@
--- `checksum::update` meets its contract: after i turns 127 less the total's low seven bits is the checksum continued over the first i bytes, and the
--- total is at most 127 + 255 * i, which 16 bits hold for 256 bytes.
--- Assumes nothing.
-use mathlib.Core.Path.{◌≡◌, ap, ◌∙◌}
-use Prim.Native.Nat.{ℕ, ◌+◌, ◌-◌, ◌%◌, ◌<◌}
-use native.Mathlib.Omega.{arith}
-use native.Mathlib.Numerals.{add-one}
-use lib.ListN.{length, get_or}
-use lib.Seq.{take-suc, take_all}
-use Rattle.checksum.specs.Checksum.{checksum_from, step}
-use Rattle.checksum.proofs.Laws.{checksum_from-append}
+-- `checksum::update` meets its contract: the bytes of a piece of 256 add up to 16 bits, and the sum reduced once is the checksum continued. Assumes nothing.
+use Rattle.std.proofs.Common.{rules, ◌≤◌, ◌≡◌, ℕ, sum, arith}
+use Rattle.std.specs.List.{All}
+use Rattle.std.proofs.lemmas.List.Sums.{sum_by-le}
+use Rattle.std.proofs.iter.runs.Made.{chains}
+use Rattle.checksum.proofs.Laws.{checksum_from-sum}
 use Rattle.checksum.proofs.update.Goals as goal
 
-pub loop-i-init : goal.loop-i-init
-unfolding checksum_from
-loop-i-init c = (omega arith, omega arith, omega arith)
-
-pub overflow_cast-total-in-loop-i : goal.overflow_cast-total-in-loop-i
-overflow_cast-total-in-loop-i c = omega (arith, c.type_inv.piece c.loop-i.i)
-
-pub overflow_add-total : goal.overflow_add-total
-overflow_add-total c = omega (arith, c.type_inv.piece c.loop-i.i)
-
-pub loop-i-preserved : goal.loop-i-preserved
-unfolding checksum_from
-loop-i-preserved c =
-    let s = c.args.piece.now in
-    let total = c.loop-i.total in
-    let i = c.loop-i.i in
-    let byte = get_or s i 0 in
-    let shorter : i < length s = omega arith in
-    let fits : byte < 256 = omega (arith, c.type_inv.piece i) in
-    let stepped : 127 - (total + byte) % 128 ≡ step (127 - total % 128) byte = omega arith in
-    (omega arith, omega arith, stepped ∙ rw (add-one, take-suc s i 0, checksum_from-append) (ap (λ (n : ℕ). step n byte) c.loop-i.invariant.2))
+pub overflow_add-result : goal.overflow_add-result
+overflow_add-result c =
+    let total : c.sum-total.result ≡ sum c.args.piece.now = search (rules, chains) in
+    let bytes : All (λ b. b ≤ 255) c.args.piece.now = search rules in
+    omega (arith, sum_by-le (λ (x : ℕ). x) 255 c.args.piece.now bytes)
 
 pub returns : goal.returns
 returns c =
-    let s = c.args.piece.now in
-    c.loop-i.invariant.2 ∙ ap (checksum_from c.args.sum) (take_all c.loop-i.i s (omega arith))
+    let total : c.sum-total.result ≡ sum c.args.piece.now = search (rules, chains) in
+    let bytes : All (λ b. b ≤ 255) c.args.piece.now = search rules in
+    rw total (checksum_from-sum c.args.sum c.args.piece.now (omega arith) bytes)

@@ -14,32 +14,32 @@ returns-then-input-start c =
     let out = args.out.now in
     let six = refusal-past s args.start (length out) (omega arith) in
     record {
-      value = c.without.ensures ∙ sym (next-refuses s args.start (length out) 6 (omega arith) six);
+      value = c.from.ensures ∙ sym (next-refuses s args.start (length out) 6 (omega arith) six);
       out_after = sym (output-kept s args.start out (omega arith));
     }
 
 pub deliver-requires : goal.deliver-requires
 deliver-requires c =
-    (search-found c.args.input.now c.args.start c.in-At.span _ c.in-At.ensures refl).whole-at
+    (search-found c.args.input.now c.args.start c.in-Some.span _ c.in-Some.ensures refl).whole-at
 
-pub returns-in-At : goal.returns-in-At
-returns-in-At c =
+pub returns-in-Some : goal.returns-in-Some
+returns-in-Some c =
     let args = c.args in
     let s = args.input.now in
-    let found = search-found s args.start c.in-At.span _ c.in-At.ensures refl in
+    let found = search-found s args.start c.in-Some.span _ c.in-Some.ensures refl in
     record {
-      value = c.deliver.ensures.value ∙ next-found s args.start _ found (omega arith) (length args.out.now);
+      value = c.from-in-Some.ensures ∙ c.deliver.ensures.value ∙ next-found s args.start _ found (omega arith) (length args.out.now);
       out_after = c.deliver.ensures.out_after ∙ output-found s args.start _ found (omega arith) args.out.now;
     }
 
-pub returns-in-Nothing : goal.returns-in-Nothing
-returns-in-Nothing c =
+pub returns-in-None : goal.returns-in-None
+returns-in-None c =
     let args = c.args in
     let s = args.input.now in
     let out = args.out.now in
-    let empty = search-none s args.start _ c.in-Nothing.ensures refl in
+    let empty = search-none s args.start _ c.in-None.ensures refl in
     let zero = refusal-none s args.start (length out) (omega arith) (rw empty (omega arith)) in
     record {
-      value = c.without-in-Nothing.ensures ∙ sym (next-answers s args.start (length out) zero ∙ ap first_of empty);
+      value = c.from-in-None.ensures ∙ sym (next-answers s args.start (length out) zero ∙ ap first_of empty);
       out_after = sym (output-written s args.start out zero ∙ rw empty refl);
     }

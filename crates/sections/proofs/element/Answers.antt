@@ -1,16 +1,9 @@
--- `element` meets its contract: `cut_out` is called on what was found, which lies in the payload. Assumes nothing.
-use Rattle.sections.specs.Answer.{element_found, element_shown}
-use Rattle.sections.proofs.Laws.{element-at, element-within}
-use Rattle.sections.proofs.Showing.{shows}
+-- `element` meets its contract: what was found lies in the payload. Assumes nothing.
+use Rattle.sections.proofs.Laws.{element-at, element-within, shows}
 use Rattle.sections.proofs.element.Goals as goal
 
-pub cut_out-part-requires : goal.cut_out-part-requires
-cut_out-part-requires c =
-    let a = c.args in
-    rw c.find_element-found.ensures (element-within a.header a.payload.now a.k a.i)
+pub show-requires : goal.show-requires
+show-requires c = rw c.find_element.ensures (element-within c.args.header c.args.payload.now c.args.k c.args.i)
 
 pub returns : goal.returns
-returns c =
-    let a = c.args in
-    shows a.payload c.find_element-found.result (element_found a.header a.payload.now a.k a.i) (element_shown a.header a.payload.now a.k a.i)
-    c.cut_out-part.result c.find_element-found.ensures (element-at a.header a.payload.now a.k a.i) c.cut_out-part.ensures
+returns c = shows c.args.payload _ _ _ _ c.find_element.ensures (element-at c.args.header c.args.payload.now c.args.k c.args.i) c.show.ensures

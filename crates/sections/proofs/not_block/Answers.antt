@@ -1,19 +1,11 @@
--- `not_block` meets its contract: each `return` has a test that no block packet's fields pass, and behind them all only the room is left. Assumes nothing.
+-- `not_block` meets its contract: no block packet passes a test before the last, and only the room is left behind them all. Assumes nothing.
 use native.Mathlib.Omega.{arith}
+use mathlib.Core.Path.{◌∙◌}
 use Rattle.sections.proofs.Finding.{no_block, room-left}
 use Rattle.sections.proofs.not_block.Goals as goal
 
-pub returns-then-header-ne16 : goal.returns-then-header-ne16
-returns-then-header-ne16 c = no_block _ _ (λ b. omega (arith, b.version))
-
-pub returns-then-header-ne21 : goal.returns-then-header-ne21
-returns-then-header-ne21 c = no_block _ _ (λ b. omega (arith, b.destination))
-
-pub returns-then-header-ne256 : goal.returns-then-header-ne256
-returns-then-header-ne256 c = no_block _ _ (λ b. omega (arith, b.command))
-
 pub returns-then-bytes-ne0 : goal.returns-then-bytes-ne0
-returns-then-bytes-ne0 c = no_block _ _ (λ b. omega (arith, b.frames))
+returns-then-bytes-ne0 c = c.if-bytes-ne0.true ∙ no_block _ _ (λ b. grind arith)
 
-pub returns : goal.returns
-returns c = room-left _ _ (omega arith) (omega arith) (omega arith) (omega arith)
+pub returns-else-bytes-ne0 : goal.returns-else-bytes-ne0
+returns-else-bytes-ne0 c = room-left _ _ (grind arith) (grind arith) (grind arith) (grind arith)

@@ -1,16 +1,9 @@
--- `section` meets its contract: `cut_out` is called on what was found, which lies in the payload. Assumes nothing.
-use Rattle.sections.specs.Answer.{section_found, section_shown}
-use Rattle.sections.proofs.Laws.{section-at, section-within}
-use Rattle.sections.proofs.Showing.{shows}
+-- `section` meets its contract: what was found lies in the payload. Assumes nothing.
+use Rattle.sections.proofs.Laws.{section-at, section-within, shows}
 use Rattle.sections.proofs.section.Goals as goal
 
-pub cut_out-part-requires : goal.cut_out-part-requires
-cut_out-part-requires c =
-    let a = c.args in
-    rw c.find_section-found.ensures (section-within a.header a.payload.now a.k)
+pub show-requires : goal.show-requires
+show-requires c = rw c.find_section.ensures (section-within c.args.header c.args.payload.now c.args.k)
 
 pub returns : goal.returns
-returns c =
-    let a = c.args in
-    shows a.payload c.find_section-found.result (section_found a.header a.payload.now a.k) (section_shown a.header a.payload.now a.k)
-    c.cut_out-part.result c.find_section-found.ensures (section-at a.header a.payload.now a.k) c.cut_out-part.ensures
+returns c = shows c.args.payload _ _ _ _ c.find_section.ensures (section-at c.args.header c.args.payload.now c.args.k) c.show.ensures

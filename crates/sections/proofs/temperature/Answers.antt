@@ -1,23 +1,30 @@
--- `temperature` meets its contract, by the laws of signed numbers at 16 bits. Assumes nothing.
-use Prim.Native.Nat.{◌-◌}
+-- `temperature` meets its contract. Assumes nothing.
+use Prim.Native.Nat.{ℕ, ◌<◌, ◌*◌, ◌-◌}
 use native.Mathlib.Omega.{arith}
-use mathlib.Core.Path.{ap, ◌∙◌}
+use native.Mathlib.Decide.{dec_lt}
+use mathlib.Core.Path.{◌≡◌, ap, ◌∙◌}
+use mathlib.Core.Logic.{dite}
+use borrow.Author.Tests.{lt-ltb, le-ltb}
 use mir.Syntax.{w16}
-use Rattle.basics.specs.Words.{signed}
-use Rattle.basics.proofs.Signed.{low_half, high_fits, high_half}
+use mir.Val.{to_z, SFits}
+use Rattle.std.proofs.Common.{rules}
+use Rattle.std.proofs.Math.Facts.{to_z-neg}
+use Rattle.std.proofs.lemmas.Int.{to_z-of_z, ints}
+use Rattle.basics.specs.Choice.{choose}
+use Rattle.basics.specs.Words.{signed, word_at}
 use Rattle.sections.proofs.temperature.Goals as goal
 
-pub overflow_sub-result-else-word-lt32768 : goal.overflow_sub-result-else-word-lt32768
-overflow_sub-result-else-word-lt32768 c =
-    let n = c.word_of-word.result in
-    high_fits w16 n (0xFFFF - n) (omega arith) (omega arith)
+cast : (n : ℕ) → n < 0x10000 → to_z w16 n ≡ signed 16 n
+unfolding signed choose
+cast n b =
+    dite (dec_lt (2 * n) 0x10000)
+    (λ low. rw (lt-ltb (2 * n) 0x10000 low) (omega (arith, ints)))
+    (λ high. rw (le-ltb (2 * n) 0x10000 (omega arith))
+    (ap (to_z w16) (omega arith) ∙ to_z-neg w16 (0xFFFF - n) (omega arith) ∙ omega (arith, ints)))
 
-pub returns-then-word-lt32768 : goal.returns-then-word-lt32768
-returns-then-word-lt32768 c =
-    let word = c.word_of-word in
-    low_half w16 word.result (omega arith) ∙ ap (signed 16) word.ensures
-
-pub returns-else-word-lt32768 : goal.returns-else-word-lt32768
-returns-else-word-lt32768 c =
-    let word = c.word_of-word in
-    high_half w16 word.result (0xFFFF - word.result) (omega arith) (omega arith) ∙ ap (signed 16) word.ensures
+pub returns : goal.returns
+returns c =
+    let read = c.from_le_bytes in
+    let fits : SFits w16 read.result = search rules in
+    let word = word_at c.args.bytes 0 in
+    to_z-of_z w16 read.result fits ∙ read.ensures ∙ ap (to_z w16) (omega arith) ∙ cast word (search rules)

@@ -2,7 +2,6 @@
 -- Assumes nothing.
 use mathlib.Core.Path.{◌≡◌}
 use mathlib.Core.Bool.{false}
-use Prim.Native.Nat.{◌≤◌, ◌-◌}
 use lib.ListN.{take}
 use Rattle.septet.specs.Septet.{with_top_bits, unused_bits}
 use Rattle.septet.specs.Answer.{any_high, padded}
@@ -10,10 +9,6 @@ use Rattle.septet.proofs.inject.Given as goal
 
 abbrev pub invariant-loop-i : goal.invariant-loop-i
 invariant-loop-i l =
-    (l.i ≤ l.used)
-    × (l.rest ≡ unused_bits l.i l.septet)
+    (l.rest ≡ unused_bits l.i l.septet)
     × (any_high (take l.i l.bytes) ≡ false)
     × (l.full ≡ padded l.i (with_top_bits l.septet (take l.i l.bytes)))
-
-abbrev pub decreases-loop-i : goal.decreases-loop-i
-decreases-loop-i l = l.used - l.i

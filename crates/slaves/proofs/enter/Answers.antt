@@ -3,5 +3,8 @@ use Rattle.slaves.proofs.enter.Goals as goal
 
 pub returns : goal.returns
 returns c =
-    enter-meets c.args.figures c.args.slave c.args.table.now c.seek-at.ensures c.seek-free.ensures c.behind-behind.ensures c.seek-next.ensures
-    c.occupancy-occupancy.ensures c.enter-plan.ensures c.after_enter-kept.ensures c.put.ensures
+    let met =
+    enter-meets c.enter-plan.result c.args.figures c.args.slave c.args.table.now c.seek-at.ensures c.seek-free.ensures c.behind.ensures c.seek-next.ensures
+    c.occupancy-occupancy.ensures c.enter-plan.ensures.refused c.enter-plan.ensures.placed c.put-number.ensures.number c.put-number.ensures.table_after
+    c.after_enter.ensures in
+    record { value = met.0; table_after = met.1 }

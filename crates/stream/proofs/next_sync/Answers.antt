@@ -1,14 +1,13 @@
--- `stream::next_sync` meets its contract: the next sync byte from here on is that from the start on. Assumes nothing.
+-- `stream::next_sync` meets its contract: the first sync byte of what is left is the next. Assumes nothing.
 use native.Mathlib.Omega.{arith}
-use mathlib.Core.Path.{sym, ◌∙◌}
-use Rattle.stream.proofs.Syncs.{sync-end, sync-here, sync-on}
+use Rattle.std.proofs.Common.{rules}
+use mathlib.Core.Path.{sym}
+use Rattle.basics.proofs.Over.{part}
+use Rattle.stream.proofs.Syncs.{sync-end, sync-by-match}
 use Rattle.stream.proofs.next_sync.Goals as goal
 
-pub returns-then-input-place : goal.returns-then-input-place
-returns-then-input-place c = sym (sync-here _ _ (omega arith) c.if-input-place.true) ∙ c.loop-place.invariant
-
-pub loop-place-preserved : goal.loop-place-preserved
-loop-place-preserved c = sym (sync-on _ _ (omega arith) c.if-input-place.false) ∙ c.loop-place.invariant
+pub returns-then-input-start : goal.returns-then-input-start
+returns-then-input-start c = sym (sync-end _ _ (omega arith))
 
 pub returns : goal.returns
-returns c = sym (sync-end _ _ (omega arith)) ∙ c.loop-place.invariant
+returns c = sync-by-match _ c.args.start _ c.first_sync.result (omega arith) (rw part at c.first_sync.ensures) c.map_or.ensures (λ behind q. search rules)

@@ -1,104 +1,46 @@
--- `all::lines` meets its contract: the output begins with what is written, and what remains makes up the rest. Assumes nothing.
-use Prim.Native.Nat.{ℕ, ◌+◌, ◌-◌, ◌≤◌}
+-- `all::lines` meets its contract: the lines of the faults before `place` are written. Assumes nothing.
 use native.Mathlib.Omega.{arith}
-use mathlib.Core.Path.{◌≡◌, refl, sym, ap, ◌∙◌}
-use mathlib.Core.List.{List, [], ◌++◌, append-nil}
-use lib.ListN.{length, take, drop, length-append, length-drop}
-use Rattle.basics.specs.Bytes.{over}
-use Rattle.basics.specs.declared.Written.{Written}
-use Rattle.basics.proofs.Over.{part, lent}
-use Rattle.basics.proofs.Output.{answered-fits, output-written}
+use Rattle.std.proofs.lemmas.Bool.{not-false, not-true}
+use Rattle.listing.proofs.SoFar.{nothing, everything, fits, one_more-length, one_more}
 use Rattle.explanation.specs.Line.{line_of}
-use Rattle.explanation.specs.Explanation.{explanation_of}
-use Rattle.explanation.proofs.Following.{Next, next-line, no_line, next-done, next_fits}
+use Rattle.explanation.proofs.Following.{next-line, no_line}
 use Rattle.explanation.proofs.all.lines.Goals as goal
 
-pub loop-place-init : goal.loop-place-init
-loop-place-init c = ([], refl, refl, refl, omega arith, refl)
-
-pub slice_bounds-line-count : goal.slice_bounds-line-count
-slice_bounds-line-count c =
-    let input = c.args.input.now in
-    let at = c.loop-place in
-    let inv = at.invariant in
-    let fault = c.read_fault_at-fault.result in
-    let found : Next input at.place fault = next-line input at.place fault c.read_fault_at-fault.ensures c.if-fault.true in
-    let text : List ℕ = line_of fault in
-    let fits : at.to + length text ≤ length at.out = omega (arith, next_fits input at.place fault found inv.0 inv.3) in
-    omega arith
-
-pub slice_bounds-line-start : goal.slice_bounds-line-start
-slice_bounds-line-start c =
-    let input = c.args.input.now in
-    let at = c.loop-place in
-    let inv = at.invariant in
-    let fault = c.read_fault_at-fault.result in
-    let found : Next input at.place fault = next-line input at.place fault c.read_fault_at-fault.ensures c.if-fault.true in
-    let text : List ℕ = line_of fault in
-    let fits : at.to + length text ≤ length at.out = omega (arith, next_fits input at.place fault found inv.0 inv.3) in
-    omega arith
+pub loop-fault-init : goal.loop-fault-init
+loop-fault-init c = (nothing _ _, omega arith, omega arith)
 
 pub overflow_add-to : goal.overflow_add-to
 overflow_add-to c =
-    let input = c.args.input.now in
-    let at = c.loop-place in
-    let inv = at.invariant in
+    let loop = c.loop-fault in
     let fault = c.read_fault_at-fault.result in
-    let found : Next input at.place fault = next-line input at.place fault c.read_fault_at-fault.ensures c.if-fault.true in
-    let text : List ℕ = line_of fault in
-    let fits : at.to + length text ≤ length at.out = omega (arith, next_fits input at.place fault found inv.0 inv.3) in
-    let rest : List ℕ = take (length at.out - at.to) (drop at.to at.out) in
-    let room : length text ≤ length rest = simp (part, length-drop) (omega arith) in
-    let size : c.line-written.result.length ≡ length text =
-    ap (λ (w : Written). w.length) (c.line-written.ensures.value ∙ answered-fits text (length rest) room) in
-    omega arith
+    let found = next-line c.args.input.now loop.place fault c.read_fault_at-fault.ensures (not-false _ c.if-not-fault.false) in
+    let size = one_more-length loop.invariant.0 (omega arith) (line_of fault) _ found.rest c.line-written.result c.line-written.new.out c.line-written.ensures.value c.line-written.ensures.out_after in
+    omega (arith, size, fits loop.invariant.0 (omega arith) (line_of fault) _ found.rest)
 
 pub overflow_add-place : goal.overflow_add-place
 overflow_add-place c =
-    let input = c.args.input.now in
-    let at = c.loop-place in
-    let inv = at.invariant in
-    let fault = c.read_fault_at-fault.result in
-    let found : Next input at.place fault = next-line input at.place fault c.read_fault_at-fault.ensures c.if-fault.true in
+    let found = next-line c.args.input.now c.loop-fault.place c.read_fault_at-fault.result c.read_fault_at-fault.ensures (not-false _ c.if-not-fault.false) in
     omega (arith, found.inside)
 
-pub loop-place-smaller : goal.loop-place-smaller
-loop-place-smaller c =
-    let input = c.args.input.now in
-    let at = c.loop-place in
-    let inv = at.invariant in
-    let fault = c.read_fault_at-fault.result in
-    let found : Next input at.place fault = next-line input at.place fault c.read_fault_at-fault.ensures c.if-fault.true in
+pub loop-fault-smaller : goal.loop-fault-smaller
+loop-fault-smaller c =
+    let found = next-line c.args.input.now c.loop-fault.place c.read_fault_at-fault.result c.read_fault_at-fault.ensures (not-false _ c.if-not-fault.false) in
     omega (arith, found.after, found.inside)
 
-pub loop-place-preserved : goal.loop-place-preserved
-loop-place-preserved c =
-    let input = c.args.input.now in
-    let at = c.loop-place in
-    let inv = at.invariant in
+pub loop-fault-preserved : goal.loop-fault-preserved
+loop-fault-preserved c =
+    let loop = c.loop-fault in
     let fault = c.read_fault_at-fault.result in
-    let found : Next input at.place fault = next-line input at.place fault c.read_fault_at-fault.ensures c.if-fault.true in
-    let text : List ℕ = line_of fault in
-    let fits : at.to + length text ≤ length at.out = omega (arith, next_fits input at.place fault found inv.0 inv.3) in
-    let rest : List ℕ = take (length at.out - at.to) (drop at.to at.out) in
-    let room : length text ≤ length rest = simp (part, length-drop) (omega arith) in
-    let size : c.line-written.result.length ≡ length text =
-    ap (λ (w : Written). w.length) (c.line-written.ensures.value ∙ answered-fits text (length rest) room) in
-    let wrote : c.line-written.new.out ≡ over text rest = c.line-written.ensures.out_after ∙ output-written text rest room in
-    let done = inv.0 in (
-      done ++ text,
-      omega (arith, length-append done text, inv.1),
-      lent done text c.args.out.now at.out _ at.to inv.1 inv.2 wrote,
-      next-done input at.place fault found done inv.3,
+    let found = next-line c.args.input.now loop.place fault c.read_fault_at-fault.ensures (not-false _ c.if-not-fault.false) in
+    let text = line_of fault in
+    let size = one_more-length loop.invariant.0 (omega arith) text _ found.rest c.line-written.result c.line-written.new.out c.line-written.ensures.value c.line-written.ensures.out_after in (
+      one_more loop.invariant.0 (omega arith) text _ found.rest c.line-written.result c.line-written.new.out c.line-written.ensures.value c.line-written.ensures.out_after,
       omega (arith, found.inside),
-      omega arith,
+      omega (arith, size, fits loop.invariant.0 (omega arith) text _ found.rest),
     )
 
-pub returns : goal.returns
-returns c =
-    let input = c.args.input.now in
-    let at = c.loop-place in
-    let inv = at.invariant in
-    let end = no_line input at.place _ c.read_fault_at-fault.ensures c.if-fault.false in
-    let all : inv.0 ≡ explanation_of input = sym (append-nil inv.0) ∙ rw end at inv.3 in
-    record { value = sym inv.1 ∙ ap length all; out_after = inv.2 ∙ ap (λ (x : List ℕ). over x c.args.out.now) all }
+pub returns-then-not-fault : goal.returns-then-not-fault
+returns-then-not-fault c =
+    let end = no_line c.args.input.now c.loop-fault.place c.read_fault_at-fault.result c.read_fault_at-fault.ensures (not-true _ c.if-not-fault.true) in
+    let both = everything (rw end at c.loop-fault.invariant.0) in
+    record { value = both.0; out_after = both.1 }

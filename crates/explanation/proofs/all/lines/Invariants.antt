@@ -1,21 +1,14 @@
--- `all::lines` meets its contract: the output begins with what is written, and what remains makes up the rest. Assumes nothing.
-use Prim.Native.Nat.{ℕ, ◌-◌, ◌≤◌}
-use mathlib.Core.Path.{◌≡◌}
-use mathlib.Core.List.{List, ◌++◌}
+-- `all::lines` meets its contract: the lines of the faults before `place` are written. Assumes nothing.
+use Prim.Native.Nat.{◌-◌, ◌≤◌}
 use lib.ListN.{length}
-use Rattle.basics.specs.Bytes.{over}
+use Rattle.listing.proofs.SoFar.{SoFar}
 use Rattle.explanation.specs.Explanation.{explanation_of}
 use Rattle.explanation.proofs.Following.{lines_after}
 use Rattle.explanation.proofs.all.lines.Given as goal
 
-abbrev pub invariant-loop-place : goal.invariant-loop-place
-invariant-loop-place l =
-    (done : List ℕ)
-    × (length done ≡ l.to)
-    × (l.out ≡ over done l.initial.out)
-    × (done ++ lines_after l.input l.place ≡ explanation_of l.input)
-    × (l.place ≤ length l.input)
-    × (length l.out ≡ length l.initial.out)
+abbrev pub invariant-loop-fault : goal.invariant-loop-fault
+invariant-loop-fault l =
+    SoFar (explanation_of l.input) (lines_after l.input l.place) l.to l.initial.out l.out × (l.place ≤ length l.input) × (l.to ≤ length l.out)
 
-abbrev pub decreases-loop-place : goal.decreases-loop-place
-decreases-loop-place l = length l.input - l.place
+abbrev pub decreases-loop-fault : goal.decreases-loop-fault
+decreases-loop-fault l = length l.input - l.place

@@ -1,20 +1,13 @@
--- `all::lines` meets its contract: the output begins with what is written, and what remains makes up the rest. Assumes nothing.
-use Prim.Native.Nat.{ℕ, ◌-◌, ◌≤◌}
-use mathlib.Core.Path.{◌≡◌}
-use mathlib.Core.List.{List, ◌++◌}
+-- `all::lines` meets its contract: the lines of the records before `at` are written. Assumes nothing.
+use Prim.Native.Nat.{◌-◌, ◌≤◌}
 use lib.ListN.{length, drop}
-use Rattle.basics.specs.Bytes.{over}
 use Rattle.listing.specs.Listing.{listing_of}
+use Rattle.listing.proofs.SoFar.{SoFar}
 use Rattle.listing.proofs.all.lines.Given as goal
 
-abbrev pub invariant-loop-at : goal.invariant-loop-at
-invariant-loop-at l =
-    (done : List ℕ)
-    × (length done ≡ l.to)
-    × (l.out ≡ over done l.initial.out)
-    × (done ++ listing_of (drop l.at l.input) ≡ listing_of l.input)
-    × (l.at ≤ length l.input)
-    × (length l.out ≡ length l.initial.out)
+abbrev pub invariant-loop-payload : goal.invariant-loop-payload
+invariant-loop-payload l =
+    SoFar (listing_of l.input) (listing_of (drop l.at l.input)) l.to l.initial.out l.out × (l.at ≤ length l.input) × (l.to ≤ length l.out)
 
-abbrev pub decreases-loop-at : goal.decreases-loop-at
-decreases-loop-at l = length l.input - l.at
+abbrev pub decreases-loop-payload : goal.decreases-loop-payload
+decreases-loop-payload l = length l.input - l.at

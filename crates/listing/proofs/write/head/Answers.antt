@@ -8,18 +8,6 @@ use Rattle.basics.proofs.Over.{lent, all-written}
 use Rattle.listing.specs.Line.{hex_command, spaced, hex_fields, hex_head}
 use Rattle.listing.proofs.write.head.Goals as goal
 
-pub slice_bounds-command-count : goal.slice_bounds-command-count
-unfolding hex_head
-slice_bounds-command-count c = omega arith
-
-pub slice_bounds-command-start : goal.slice_bounds-command-start
-unfolding hex_head
-slice_bounds-command-start c = omega arith
-
-pub command-requires : goal.command-requires
-unfolding hex_head
-command-requires c = omega arith
-
 pub returns : goal.returns
 unfolding hex_head
 returns c =

@@ -1,10 +1,11 @@
 -- `write::payload_text_length` meets its contract. Assumes nothing.
-use native.Mathlib.Omega.{arith}
-use Rattle.listing.proofs.Lines.{payload-none, payload-some, length-bytes_hex}
+use mathlib.Core.Path.{ap, sym, ◌∙◌}
+use lib.ListN.{length}
+use Rattle.listing.proofs.Lines.{payload-none, length-some}
 use Rattle.listing.proofs.write.payload_text_length.Goals as goal
 
-pub returns-then-payload-eq0 : goal.returns-then-payload-eq0
-returns-then-payload-eq0 c = rw (payload-none c.args.payload.now (omega arith))
+pub returns-then-is_empty : goal.returns-then-is_empty
+returns-then-is_empty c = sym (ap length (payload-none c.args.payload.now (sym c.is_empty.ensures ∙ c.if-is_empty.true)))
 
-pub returns : goal.returns
-returns c = rw (payload-some c.args.payload.now (omega arith), length-bytes_hex) (omega arith)
+pub returns-else-is_empty : goal.returns-else-is_empty
+returns-else-is_empty c = sym (length-some c.args.payload.now (sym c.is_empty.ensures ∙ c.if-is_empty.false))

@@ -1,6 +1,7 @@
 -- `clear::stream` meets its contract: by the kind, the frames, the one septet, or nothing. Assumes nothing.
 use native.Mathlib.Omega.{arith}
-use mathlib.Core.Path.{sym}
+use mathlib.Core.Logic.{inl, inr}
+use mathlib.Core.Path.{sym, ◌∙◌}
 use lib.ListN.{length-drop}
 use Rattle.basics.proofs.Over.{part}
 use Rattle.recording.proofs.Deliveries.{whole_long}
@@ -38,7 +39,8 @@ pub returns-in-Datagram : goal.returns-in-Datagram
 returns-in-Datagram c = datagram-cleared _ c.requires (sym c.in-Datagram.ensures) _ c.septet.ensures
 
 pub returns-in-Telegram : goal.returns-in-Telegram
-returns-in-Telegram c = telegram-cleared _ c.requires (sym c.in-Telegram.ensures)
-
-pub returns-in-Unknown : goal.returns-in-Unknown
-returns-in-Unknown c = absurd (unknown-not _ c.requires (sym c.in-Unknown.ensures))
+returns-in-Telegram c =
+    elim c.in-Telegram.is [
+      | inl telegram ↦ telegram-cleared _ c.requires (sym c.kind_of.ensures ∙ telegram)
+      | inr unknown ↦ absurd (unknown-not _ c.requires (sym c.kind_of.ensures ∙ unknown))
+    ]

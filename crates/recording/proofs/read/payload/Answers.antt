@@ -1,54 +1,84 @@
--- `recording::read::payload` meets its contract: a whole stream is there, and as long as its header says. Assumes nothing.
-use Prim.Native.Nat.{ℕ}
+-- `recording::read::payload` meets its contract, kind by kind. Assumes nothing.
 use native.Mathlib.Omega.{arith}
-use mathlib.Core.Path.{◌≡◌, sym, ap, ◌∙◌}
-use lib.ListN.{length}
-use mathlib.Core.List.{List}
+use mathlib.Core.Path.{refl, sym, ap, ◌∙◌}
+use lib.Seq.{get_or-drop}
 use Rattle.basics.specs.Bytes.{over}
-use Rattle.basics.proofs.Output.{output-kept, output-written}
-use Rattle.stream.specs.Layout.{payload_length_of}
-use Rattle.record.specs.Record.{record_of}
-use Rattle.recording.proofs.Deliveries.{whole_long}
-use Rattle.recording.proofs.Reading.{whole-there, whole-few, whole-size, whole-payload}
+use Rattle.basics.proofs.Over.{part}
+use Rattle.stream.specs.Layout.{header_length, frame_width, payload_length_of}
+use Rattle.stream.specs.declared.Kind.{Kind}
+use Rattle.record.specs.Record.{payload_in}
+use Rattle.recording.proofs.Reading.{held-as, held-there, length_part}
 use Rattle.recording.proofs.read.payload.Goals as goal
 
-pub bounds-stream-5 : goal.bounds-stream-5
-bounds-stream-5 c = omega (arith, whole_long c.args.stream.now c.requires)
+pub slice_bounds-frames-count : goal.slice_bounds-frames-count
+unfolding header_length frame_width
+slice_bounds-frames-count c = omega (arith, held-there (held-as c.in-Packet.is c.requires))
 
-pub frame_count-count-requires : goal.frame_count-count-requires
-frame_count-count-requires c = whole-there c.args.stream.now c.requires _ c.kind_of-kind.ensures
+pub slice_bounds-frames-start : goal.slice_bounds-frames-start
+unfolding header_length frame_width
+slice_bounds-frames-start c = omega (arith, held-there (held-as c.in-Packet.is c.requires))
 
-pub returns-then-out-size : goal.returns-then-out-size
-returns-then-out-size c =
+pub frames-requires : goal.frames-requires
+unfolding header_length frame_width payload_length_of
+frames-requires c =
+    let held = held-as c.in-Packet.is c.requires in
     let s = c.args.stream.now in
-    let out = c.args.out.now in
-    let K = c.kind_of-kind.result in
-    let size : c.payload_length-size.result ≡ length (record_of s).payload =
-    c.payload_length-size.ensures ∙ ap (payload_length_of K) c.frame_count-count.ensures ∙ whole-size s c.requires K c.kind_of-kind.ensures in
-    record { value = size; out_after = sym (output-kept (record_of s).payload out (omega (arith, size))) }
+    (omega arith, held.few, omega (arith, held-there held, length_part s 10), omega (arith, held.fits))
 
-pub payload_as-requires : goal.payload_as-requires
-payload_as-requires c =
-    let s = c.args.stream.now in
-    let K = c.kind_of-kind.result in
-    record {
-      there = whole-there s c.requires K c.kind_of-kind.ensures;
-      counted = c.frame_count-count.ensures;
-      few = omega (arith, c.frame_count-count.ensures, whole-few s c.requires K c.kind_of-kind.ensures);
-      fits = omega (arith, c.payload_length-size.ensures);
-    }
+pub slice_bounds-frame-count : goal.slice_bounds-frame-count
+unfolding header_length frame_width
+slice_bounds-frame-count c = omega (arith, held-there (held-as c.in-Datagram.is c.requires))
 
-pub returns : goal.returns
-returns c =
+pub slice_bounds-frame-start : goal.slice_bounds-frame-start
+unfolding header_length frame_width
+slice_bounds-frame-start c = omega (arith, held-there (held-as c.in-Datagram.is c.requires))
+
+pub frame-requires : goal.frame-requires
+unfolding header_length frame_width payload_length_of
+frame-requires c =
+    let held = held-as c.in-Datagram.is c.requires in
     let s = c.args.stream.now in
-    let out = c.args.out.now in
-    let K = c.kind_of-kind.result in
-    let size : c.payload_length-size.result ≡ length (record_of s).payload =
-    c.payload_length-size.ensures ∙ ap (payload_length_of K) c.frame_count-count.ensures ∙ whole-size s c.requires K c.kind_of-kind.ensures in
-    record {
-      value = size;
-      out_after =
-          c.payload_as.ensures
-          ∙ ap (λ (l : List ℕ). over l out) (whole-payload s c.requires K c.kind_of-kind.ensures)
-          ∙ sym (output-written (record_of s).payload out (omega (arith, size)));
-    }
+    (omega (arith, held-there held, length_part s 8), omega (arith, held.fits))
+
+pub slice_bounds-frames-count-in-Telegram : goal.slice_bounds-frames-count-in-Telegram
+unfolding header_length frame_width
+slice_bounds-frames-count-in-Telegram c = omega (arith, held-there (held-as c.in-Telegram.is c.requires))
+
+pub slice_bounds-frames-start-in-Telegram : goal.slice_bounds-frames-start-in-Telegram
+unfolding header_length frame_width
+slice_bounds-frames-start-in-Telegram c = omega (arith, held-there (held-as c.in-Telegram.is c.requires))
+
+pub frames-requires-in-Telegram : goal.frames-requires-in-Telegram
+unfolding header_length frame_width payload_length_of
+frames-requires-in-Telegram c =
+    let held = held-as c.in-Telegram.is c.requires in
+    let s = c.args.stream.now in
+    (omega arith, held.few, omega (arith, held-there held, length_part s 8), omega (arith, held.fits))
+
+pub returns-in-Packet : goal.returns-in-Packet
+unfolding payload_in
+returns-in-Packet c =
+    let args = c.args in
+    let e = c.in-Packet.is in
+    let held = held-as e c.requires in
+    c.frames.ensures ∙ rw (part, held.counted) (ap (λ (K : Kind). over (payload_in K args.stream.now) args.out.now) (sym e))
+
+pub returns-in-Datagram : goal.returns-in-Datagram
+unfolding payload_in
+returns-in-Datagram c =
+    let args = c.args in
+    let e = c.in-Datagram.is in
+    let held = held-as e c.requires in
+    c.frame.ensures ∙ rw (part, get_or-drop 8 args.stream.now 6 0) (ap (λ (K : Kind). over (payload_in K args.stream.now) args.out.now) (sym e))
+
+pub returns-in-Telegram : goal.returns-in-Telegram
+unfolding payload_in
+returns-in-Telegram c =
+    let args = c.args in
+    let e = c.in-Telegram.is in
+    let held = held-as e c.requires in
+    c.frames-in-Telegram.ensures ∙ rw (part, held.counted) (ap (λ (K : Kind). over (payload_in K args.stream.now) args.out.now) (sym e))
+
+pub returns-in-Unknown : goal.returns-in-Unknown
+unfolding payload_in
+returns-in-Unknown c = rw c.in-Unknown.is refl

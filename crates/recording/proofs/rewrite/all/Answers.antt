@@ -16,36 +16,36 @@ pub overflow_add-at : goal.overflow_add-at
 overflow_add-at c =
     let s = c.args.input.now in
     let loop = c.loop-span in
-    let found = search-found s loop.at c.in-At.span _ c.in-At.ensures refl in
+    let found = search-found s loop.at c.in-Some.span _ c.in-Some.ensures refl in
     omega (arith, found.inside)
 
 pub slice_bounds-one-end : goal.slice_bounds-one-end
 slice_bounds-one-end c =
     let s = c.args.input.now in
     let loop = c.loop-span in
-    let found = search-found s loop.at c.in-At.span _ c.in-At.ensures refl in
+    let found = search-found s loop.at c.in-Some.span _ c.in-Some.ensures refl in
     omega (arith, found.inside)
 
 pub one-requires : goal.one-requires
 one-requires c =
     let s = c.args.input.now in
     let loop = c.loop-span in
-    let found = search-found s loop.at c.in-At.span _ c.in-At.ensures refl in
+    let found = search-found s loop.at c.in-Some.span _ c.in-Some.ensures refl in
     stretch-one s loop.at _ found _ (rw (part, length-drop) (omega (arith, found-fits s loop.at _ found loop.invariant.0 loop.invariant.3)))
 
 pub loop-span-smaller : goal.loop-span-smaller
 loop-span-smaller c =
     let s = c.args.input.now in
     let loop = c.loop-span in
-    let found = search-found s loop.at c.in-At.span _ c.in-At.ensures refl in
+    let found = search-found s loop.at c.in-Some.span _ c.in-Some.ensures refl in
     omega (arith, found.after, found.long, found.inside)
 
 pub loop-span-preserved : goal.loop-span-preserved
 loop-span-preserved c =
     let s = c.args.input.now in
     let loop = c.loop-span in
-    let found = search-found s loop.at c.in-At.span _ c.in-At.ensures refl in
-    let stream = stream_of (record_of (drop c.in-At.span.position s)) in
+    let found = search-found s loop.at c.in-Some.span _ c.in-Some.ensures refl in
+    let stream = stream_of (record_of (drop c.in-Some.span.position s)) in
     let one = c.one in
     let size = found-length s loop.at _ found in (
       loop.invariant.0 ++ stream,
@@ -60,6 +60,6 @@ pub returns : goal.returns
 returns c =
     let s = c.args.input.now in
     let loop = c.loop-span in
-    let end = remaining-none s loop.at (search-none s loop.at _ c.in-Nothing.ensures refl) in
+    let end = remaining-none s loop.at (search-none s loop.at _ c.in_default.ensures refl) in
     let all : loop.invariant.0 ≡ normalized s = sym (append-nil loop.invariant.0) ∙ rw end at loop.invariant.3 in
     record { value = sym loop.invariant.1 ∙ ap length all; out_after = loop.invariant.2 ∙ ap (λ (l : List ℕ). over l c.args.out.now) all }

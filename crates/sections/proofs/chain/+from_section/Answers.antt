@@ -18,13 +18,13 @@ pub slice_bounds-from_section-count : goal.slice_bounds-from_section-count
 slice_bounds-from_section-count t c =
     let p = c.args.rest.now in
     let r = c.requires.k_in_bounds in
-    whole-first p (some_bytes p c.args.k r.0) r.1
+    rw c.section_length.ensures (whole-first p (some_bytes p c.args.k r.0) r.1)
 
 pub slice_bounds-from_section-start : goal.slice_bounds-from_section-start
 slice_bounds-from_section-start t c =
     let p = c.args.rest.now in
     let r = c.requires.k_in_bounds in
-    omega (arith, whole-first p (some_bytes p c.args.k r.0) r.1)
+    omega (arith, c.section_length.ensures, whole-first p (some_bytes p c.args.k r.0) r.1)
 
 pub from_section-requires : goal.from_section-requires
 from_section-requires t c =
@@ -32,10 +32,10 @@ from_section-requires t c =
     let r = c.requires.k_in_bounds in
     let fewer = step_fewer p c.args.k c.if-k-eq0.false r.0 in
     let whole = whole-rest p (some_bytes p c.args.k r.0) r.1 in
-    (omega (arith, c.decreases), (omega (arith, c.requires.k_bound), rw (part p (section_length p)) (fewer, whole)))
+    (omega (arith, c.decreases), (omega (arith, c.requires.k_bound), rw (c.section_length.ensures, part p (section_length p)) (fewer, whole)))
 
 pub returns : goal.returns
 returns t c =
     let p = c.args.rest.now in
     c.from_section.ensures
-    ∙ rw (part p (section_length p)) (sym (step_from p c.args.k c.if-k-eq0.false c.requires.k_in_bounds.0))
+    ∙ rw (c.section_length.ensures, part p (section_length p)) (sym (step_from p c.args.k c.if-k-eq0.false c.requires.k_in_bounds.0))

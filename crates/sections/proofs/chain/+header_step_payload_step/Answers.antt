@@ -4,18 +4,21 @@ use native.Mathlib.Omega.{arith}
 use mathlib.Core.Path.{sym, ap, ◌∙◌}
 use mathlib.Core.List.{List}
 use lib.ListN.{length, get_or}
-use borrow.Author.Tests.{lt-ltb, le-ltb}
+use borrow.Author.Tests.{lt-ltb, le-ltb, eqb-true, eqb-false}
 use Rattle.basics.specs.Choice.{choose}
 use Rattle.sections.specs.Stage.{payload_count}
 use Rattle.basics.proofs.Over.{part}
 use Rattle.sections.proofs.Counting.{chain-end, chain-short, chain-step}
 use Rattle.sections.proofs.chain.+header_step_payload_step.Goals as goal
 
-pub header_step-returns-then-rest-eq0 : goal.header_step-returns-then-rest-eq0
-header_step-returns-then-rest-eq0 t c = sym (chain-end c.args.rest.now c.args.count c.if-rest-eq0.true)
+pub header_step-returns-then-is_empty : goal.header_step-returns-then-is_empty
+header_step-returns-then-is_empty t c =
+    sym (chain-end c.args.rest.now c.args.count (eqb-true (length c.args.rest.now) 0 (sym c.is_empty.ensures ∙ c.if-is_empty.true)))
 
 pub header_step-returns-then-rest-lt4 : goal.header_step-returns-then-rest-lt4
-header_step-returns-then-rest-lt4 t c = sym (chain-short c.args.rest.now c.args.count (omega arith) (omega arith))
+header_step-returns-then-rest-lt4 t c =
+    let some = eqb-false (length c.args.rest.now) 0 (sym c.is_empty.ensures ∙ c.if-is_empty.false) in
+    sym (chain-short c.args.rest.now c.args.count (omega arith) (omega arith))
 
 pub header_step-returns : goal.header_step-returns
 header_step-returns t c =

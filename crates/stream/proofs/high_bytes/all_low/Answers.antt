@@ -1,6 +1,5 @@
 -- `stream::high_bytes::all_low` meets its contract: what the bytes make together is low exactly if each of them is. Assumes nothing.
 use borrow.Author.Count.{below_more}
-use borrow.Author.Tests.{ltb-true, lt-ltb}
 use Prim.Native.Nat.{ℕ, ◌<◌}
 use native.Mathlib.Omega.{arith}
 use lib.ListN.{get_or}
@@ -11,23 +10,10 @@ use Rattle.stream.proofs.high_bytes.all_low.Goals as goal
 joined-low : (a b : ℕ) → (bit_or a b < 0x80 → (a < 0x80) × (b < 0x80)) × (a < 0x80 → b < 0x80 → bit_or a b < 0x80)
 joined-low a b = (λ low. omega (arith, or_add_and a b, and_le_l a b, and_le_r a b), or_lt 7 a b)
 
-pub loop-i-init : goal.loop-i-init
-loop-i-init c = (omega arith, (λ low k below. omega arith, λ low. omega arith))
-
-pub loop-i-preserved : goal.loop-i-preserved
-loop-i-preserved c =
-    let loop = c.loop-i in
-    let low = joined-low loop.joined (get_or c.args.s.now loop.i 0) in (
-      omega arith,
-      (
-        λ joined. below_more _ _ (loop.invariant.1.0 (low.0 joined).0) (low.0 joined).1,
-        λ all. low.1 (loop.invariant.1.1 (λ k below. all k (omega arith))) (all loop.i (omega arith)),
-      ),
-    )
-
-pub returns : goal.returns
-returns c =
-    let loop = c.loop-i in (
-      λ low k below. loop.invariant.1.0 (ltb-true loop.joined 0x80 low) k (omega arith),
-      λ low. lt-ltb loop.joined 0x80 (loop.invariant.1.1 (λ k below. low k (omega arith))),
+pub loop-byte-preserved : goal.loop-byte-preserved
+loop-byte-preserved c =
+    let loop = c.loop-byte in
+    let low = joined-low loop.joined (get_or c.args.s.now loop.byte-index 0) in (
+      λ joined. below_more _ _ (loop.invariant.0 (low.0 joined).0) (low.0 joined).1,
+      λ all. low.1 (loop.invariant.1 (λ k below. all k (omega arith))) (all loop.byte-index (omega arith)),
     )

@@ -1,10 +1,7 @@
 -- `stream::unused::in_septet` meets its contract, by the test. Assumes nothing.
-use mathlib.Core.Path.{sym}
-use Rattle.stream.proofs.UnusedSeptets.{nonzero-zero, nonzero-one}
+use mathlib.Core.Path.{◌∙◌}
+use Rattle.stream.proofs.UnusedSeptets.{bit-nonzero}
 use Rattle.stream.proofs.unused.in_septet.Goals as goal
 
-pub returns-then-septet-width-ne0 : goal.returns-then-septet-width-ne0
-returns-then-septet-width-ne0 c = sym (nonzero-one _ c.if-septet-width-ne0.true)
-
-pub returns-else-septet-width-ne0 : goal.returns-else-septet-width-ne0
-returns-else-septet-width-ne0 c = sym (nonzero-zero _ c.if-septet-width-ne0.false)
+pub returns : goal.returns
+returns c = c.from.ensures ∙ bit-nonzero _

@@ -1,9 +1,0 @@
--- `pairs` ends: the measure is what is left of the bytes. Assumes nothing.
-use Rattle.std.proofs.Common.{length, ◌-◌}
-use Rattle.samples.proofs.field.pairs.Given as goal
-
-abbrev pub invariant-loop-i : goal.invariant-loop-i
-invariant-loop-i l = Unit {0}
-
-abbrev pub decreases-loop-i : goal.decreases-loop-i
-decreases-loop-i l = length l.bytes - l.i
