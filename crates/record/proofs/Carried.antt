@@ -2,7 +2,7 @@
 use Prim.Native.Nat.{ℕ, ◌+◌, ◌*◌, ◌/◌, ◌%◌, ◌<◌, ◌≤◌}
 use native.Mathlib.Omega.{arith}
 use native.Mathlib.Decide.{ℕ_discrete}
-use mathlib.Core.Path.{◌≡◌, refl, sym, ap, ◌∙◌}
+use mathlib.Core.Path.{◌≡◌, refl}
 use mathlib.Core.Logic.{dite}
 use mathlib.Core.Bool.{false, ◌||◌}
 use mathlib.Core.List.{List, [], ◌∷◌}
@@ -147,15 +147,11 @@ pub stream_length_as : (r : Record) → unwritable r ≡ 0 → length (stream_of
 unfolding stream_of stream_with
 stream_length_as r none = let p = lines-passed r none in length-stream (kind_in r) [] r p.known p.payload
 
--- the frames that a record of the kind has
-pub frames-as : (K : Kind) (r now : Record) (n : ℕ) → n ≡ frames_in (kind_in now) now → kind_in now ≡ K → r ≡ now → n ≡ frames_in K r
-frames-as K r now n counted is same = counted ∙ ap (λ (x : Kind). frames_in x now) is ∙ ap (λ (x : Record). frames_in K x) (sym same)
-
 -- what `write` asks for
 pub fits : (r : Record) (room : ℕ) → unwritable r ≡ 0 → length (stream_of r) ≤ room → Fits (kind_in r) r room
 fits r room none held =
     let p = lines-passed r none in
-    record { is = refl; known = p.known; low = p.command; sized = p.payload; held = omega (arith, stream_length_as r none) }
+    record { known = p.known; low = p.command; sized = p.payload; held = omega (arith, stream_length_as r none) }
 
 -- ── the refusal, by the record and by the room
 

@@ -3,11 +3,10 @@ use Rattle.std.specs.Prelude.{ℕ, ◌+◌, ◌*◌, ◌≤◌, ◌≡◌, false
 use Rattle.stream.specs.Layout.{header_length, frame_width}
 use Rattle.stream.specs.declared.Kind.{Kind}
 use Rattle.record.specs.Encode.{is_unknown, high_command, wrong_length}
-use Rattle.record.specs.Record.{Record, kind_in, frames_in}
+use Rattle.record.specs.Record.{Record, frames_in}
 
--- a record of the kind whose command and payload's length fit it, and an output with room for the stream
+-- a record whose command and payload's length fit the kind, and an output with room for the stream
 pub record Fits (K : Kind) (r : Record) (room : ℕ) : Type 0 where
-  pub is : kind_in r ≡ K
   pub known : is_unknown K ≡ false
   pub low : high_command K r.header.command ≡ false
   pub sized : wrong_length K r.header.command (length r.payload) ≡ false

@@ -77,3 +77,12 @@ module _ (s : List ℕ) (w : Whole s) (K : Kind) (e : K ≡ kind s) where
   pub whole-payload : payload_in K s ≡ (record_of s).payload
   unfolding record_of
   whole-payload = rw e refl
+
+-- what reading the frames of a kind asks for, whose payload is all theirs
+pub frames-ready : {K : Kind} {s : List ℕ} {count room : ℕ} → frame_width K ≤ 7 → payload_length_of K count ≡ frame_width K * count → PayloadHeld K s count room
+    → (frame_width K ≤ 7)
+    × (count < 256)
+    × ((frame_width K + 2) * count ≤ length (take (length s - header_length K) (drop (header_length K) s)))
+    × (frame_width K * count ≤ room)
+frames-ready {K} {s} {count} {room} narrow sized held =
+    (narrow, held.few, omega (arith, held-there held, length_part s (header_length K)), omega (arith, held.fits, sized))

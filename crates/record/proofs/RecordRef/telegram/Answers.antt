@@ -11,7 +11,6 @@ use Rattle.stream.specs.declared.Kind.TheVariants.{Telegram}
 use Rattle.stream.specs.Layout.{header_length, frame_width, payload_length_of, telegram_frames}
 use Rattle.record.specs.Encode.{wrong_length}
 use Rattle.record.specs.Record.{Record, address_bytes, with_checksum, framed, kind_bytes, frames_of, stream_as}
-use Rattle.record.proofs.Carried.{frames-as}
 use Rattle.record.proofs.StreamParts.{stored, summed-behind}
 use Rattle.record.proofs.Lengths.{right-length}
 use Rattle.record.proofs.RecordRef.telegram.Goals as goal
@@ -25,7 +24,7 @@ unfolding header_length frame_width frames_of
 frames-requires c =
     let sized = ap (λ (r : Record). length r.payload) c.self.view_is in
     let command = ap (λ (r : Record). telegram_frames r.header.command) c.self.view_is in
-    rw (frames-as Telegram _ _ _ c.frames-count.ensures c.requires.is c.self.view_is) (omega (arith, length-set {A = ℕ}, seven c.args.self.now c.requires.sized))
+    rw c.telegram_frames-count.ensures (omega (arith, length-set {A = ℕ}, seven c.args.self.now c.requires.sized))
 
 pub returns : goal.returns
 unfolding stream_as kind_bytes frames_of framed header_length frame_width
@@ -38,5 +37,5 @@ returns c =
     (summed-behind 0xAA body out _ _ 6 refl
     (stored (0xAA ∷ address_bytes h) out _ h.command 6 refl (omega arith) c.address.ensures)
     c.sum.ensures)
-    (rw (frames-as Telegram _ _ _ c.frames-count.ensures c.requires.is c.self.view_is) at c.frames.ensures)
+    (c.frames.ensures ∙ rw c.telegram_frames-count.ensures)
     ∙ ap (λ (r : Record). over (stream_as Telegram [] r) out) c.self.view_is

@@ -7,7 +7,7 @@ use Rattle.basics.proofs.Over.{part}
 use Rattle.stream.specs.Layout.{header_length, frame_width, payload_length_of}
 use Rattle.stream.specs.declared.Kind.{Kind}
 use Rattle.record.specs.Record.{payload_in}
-use Rattle.recording.proofs.Reading.{held-as, held-there, length_part}
+use Rattle.recording.proofs.Reading.{held-as, held-there, length_part, frames-ready}
 use Rattle.recording.proofs.read.payload.Goals as goal
 
 pub slice_bounds-frames-count : goal.slice_bounds-frames-count
@@ -20,10 +20,7 @@ slice_bounds-frames-start c = omega (arith, held-there (held-as c.in-Packet.is c
 
 pub frames-requires : goal.frames-requires
 unfolding header_length frame_width payload_length_of
-frames-requires c =
-    let held = held-as c.in-Packet.is c.requires in
-    let s = c.args.stream.now in
-    (omega arith, held.few, omega (arith, held-there held, length_part s 10), omega (arith, held.fits))
+frames-requires c = frames-ready (omega arith) refl (held-as c.in-Packet.is c.requires)
 
 pub slice_bounds-frame-count : goal.slice_bounds-frame-count
 unfolding header_length frame_width
@@ -50,10 +47,7 @@ slice_bounds-frames-start-in-Telegram c = omega (arith, held-there (held-as c.in
 
 pub frames-requires-in-Telegram : goal.frames-requires-in-Telegram
 unfolding header_length frame_width payload_length_of
-frames-requires-in-Telegram c =
-    let held = held-as c.in-Telegram.is c.requires in
-    let s = c.args.stream.now in
-    (omega arith, held.few, omega (arith, held-there held, length_part s 8), omega (arith, held.fits))
+frames-requires-in-Telegram c = frames-ready (omega arith) refl (held-as c.in-Telegram.is c.requires)
 
 pub returns-in-Packet : goal.returns-in-Packet
 unfolding payload_in
