@@ -54,7 +54,7 @@ INTRODUCTION = """\
 
 An *edit*, crates/CRATE/must-fail/EDIT.edit, is a wrong program: a comment, and the texts to exchange in its crate. `rt ci` applies each to a copy of the crate, and fails unless the prover refuses every one; one that can't be applied or read fails `./test`. Where an edit's name ends in `agreed`, it changes the definition too, so that code and definition agree on something wrong, and a sample or a law must refuse it.
 
-*What it breaks* is the edit's comment: the rule that the program no longer keeps. *The fact that fails* is the first that the prover refuses, as `rt ci` tells it: a function and a goal of its proof, by the prover's name for it; a law; or a sample. More may be refused after it.
+*What it breaks* is the edit's comment: the rule that the program no longer keeps. *The fact that fails* is the first that the prover refuses, as `rt ci` tells it: a function and a goal of its proof, by the prover's name for it; a law; or a sample. More may be refused after it. Of some the prover says that its search for the fact gave up at a limit: in the right program the same search finds it.
 
 `rt must-fail CRATE` tries the edits of one crate, and says of each what refused it.
 
