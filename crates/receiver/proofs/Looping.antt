@@ -148,7 +148,7 @@ module _ {before : ℕ} {h chunk out₀ memory out : List ℕ} {u : Unfinished} 
             goes_on faulty out' (left-of ∙ output-none s faulty out) (record { held = 0; least = 6 }) (holding-nothing after)
             (kept-long s (omega (arith, full-long, full-took.long))) (omega arith)
 
-        feed-found : found.found ≡ true
+        pub feed-found : found.found ≡ true
             → Fed before h chunk out₀ (answer_of (found_at (before + (used + 1) - u'.held) found) (used + 1) (record { held = 0; position = before + (used + 1) })) out' after
         feed-found is_found =
             let w = exactly.0 is_found in

@@ -26,7 +26,7 @@ pub fn bytes(rt: &HostRuntime, bytes: &[u8]) {
     if !bytes.is_empty() {
         text(rt, b" ");
         for byte in bytes {
-            let _ = print!(rt; "{:02X}", *byte);
+            text(rt, &text::hex_byte(*byte));
         }
     }
 }

@@ -25,7 +25,7 @@ module _ (lines : List (Bool × ℕ)) (x : ℕ) (is : first lines ≡ x) where
   pub counted-refused : x ≢ 0 → (n : ℕ) → record { number = x; count = 0 } ≡ counted lines n
   counted-refused r n = rw (is, when-refused x n 0 r)
 
-  located-refused : x ≢ 0 → (start n : ℕ) → record { number = x; start = 0; length = 0 } ≡ located lines start n
+  pub located-refused : x ≢ 0 → (start n : ℕ) → record { number = x; start = 0; length = 0 } ≡ located lines start n
   located-refused r start n = rw (is, when-refused x start 0 r, when-refused x n 0 r)
 
 -- no line applies
@@ -33,7 +33,7 @@ module _ (lines : List (Bool × ℕ)) (none : first lines ≡ 0) where
   pub counted-given : (n : ℕ) → record { number = 0; count = n } ≡ counted lines n
   counted-given n = rw (none, when-none 0 n 0 refl)
 
-  located-given : (start n : ℕ) → record { number = 0; start = start; length = n } ≡ located lines start n
+  pub located-given : (start n : ℕ) → record { number = 0; start = start; length = n } ≡ located lines start n
   located-given start n = rw (none, when-none 0 start 0 refl, when-none 0 n 0 refl)
 
 -- ── a count, and a lookup by number

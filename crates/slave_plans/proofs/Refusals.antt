@@ -9,7 +9,7 @@ use Rattle.basics.proofs.Table.{line-passed}
 use Rattle.slave_id.specs.SlaveId.{too_wide}
 use Rattle.slave_id.proofs.Writing.{wide-exactly}
 use Rattle.slave_plans.specs.Table.{is_free, belongs_to, has_address, lowest, count, index_of, occupancy_of}
-use Rattle.slave_plans.specs.Answer.{not_slave, is_absent, is_full, is_taken, enter_lines, find_lines, enter_refusal, change_refusal, remove_refusal}
+use Rattle.slave_plans.specs.Answer.{not_slave, is_absent, most_held, is_full, is_taken, enter_lines, find_lines, enter_refusal, change_refusal, remove_refusal}
 use Rattle.slave_plans.specs.declared.Slave.{Slave}
 use Rattle.slave_plans.specs.declared.Occupancy.{Occupancy}
 use Rattle.slave_plans.proofs.Addresses.{SlaveAddress, slave-exactly, no-slave}
@@ -49,7 +49,7 @@ module _ (size other from to : ℕ) where
   unfolding is_taken
   taken-same e = rw (eq-eqb to from e)
 
-  taken-other : to ≢ from → ltb other size ≡ is_taken size other from to
+  pub taken-other : to ≢ from → ltb other size ≡ is_taken size other from to
   unfolding is_taken
   taken-other n = rw (ne_eqb to from n)
 
@@ -64,13 +64,13 @@ taken-exactly o from to t = (
 
 -- 16's test, of any occupancy
 module _ (size : ℕ) (occupancy : Occupancy) where
-  full-held : 24 ≤ occupancy.held → is_full size occupancy ≡ true
+  pub full-held : most_held ≤ occupancy.held → is_full size occupancy ≡ true
   unfolding is_full
-  full-held many = rw (le-leb 24 occupancy.held many)
+  full-held many = rw (le-leb most_held occupancy.held many)
 
-  full-free : occupancy.held < 24 → is_full size occupancy ≡ leb size occupancy.free
+  pub full-free : occupancy.held < most_held → is_full size occupancy ≡ leb size occupancy.free
   unfolding is_full
-  full-free few = rw (lt-leb 24 occupancy.held few)
+  full-free few = rw (lt-leb most_held occupancy.held few)
 
 pub full-either : (size : ℕ) (occupancy : Occupancy) → (is_full size occupancy ≡ true) ↔ ((24 ≤ occupancy.held) ⊎ (size ≤ occupancy.free))
 full-either size occupancy = (

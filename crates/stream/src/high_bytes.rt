@@ -22,25 +22,21 @@ fn first_high(s: &[u8]) -> Option<usize>
     s.iter().position(|byte| *byte >= 0x80)
 }
 
-// The first high byte from `from` up to the limit, which lies within `s`.
-fn check_up_to(s: &[u8], from: usize, limit: usize) -> Result<(), Stop>
-    requires { (from ≤ limit) × (limit ≤ length s.now) }
-    ensures { MatchResult result (λ _. LowUpTo s.now from limit) (λ stop. StopsAt s.now from limit stop) }
-{
-    match first_high(&s[from..limit]) {
-        Some(behind) => Err(Verdict::HighByte.at(from + behind)),
-        None => Ok(()),
-    }
-}
-
-// The first high byte from `from` up to the limit, or the end of `s` before that.
+// The first high byte from `from` up to the limit, or the end of `s` before that. Of a stream there is mostly neither, which is seen without a
+// branch for each byte.
 pub fn check(s: &[u8], from: usize, limit: usize) -> Result<(), Stop>
     requires { (from ≤ limit) × (from ≤ length s.now) }
     ensures { MatchResult result (λ _. LowUpTo s.now from limit) (λ stop. StopsAt s.now from limit stop) }
 {
-    if s.len() < limit {
-        check_up_to(s, from, s.len())?;
-        return Err(Verdict::Ended.at(s.len()));
+    if limit <= s.len() && all_low(&s[from..limit]) {
+        return Ok(());
     }
-    check_up_to(s, from, limit)
+    let end = limit.min(s.len());
+    if let Some(behind) = first_high(&s[from..end]) {
+        return Err(Verdict::HighByte.at(from + behind));
+    }
+    if end < limit {
+        return Err(Verdict::Ended.at(end));
+    }
+    Ok(())
 }
